@@ -1,0 +1,2 @@
+-- The laws of what the evidence programs share.
+pub mod Signs

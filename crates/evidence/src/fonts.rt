@@ -1,0 +1,106 @@
+// What is printed about a font: what it says, the character that is used for a code, and a row.
+use crate::asking::code_of;
+use crate::asking::row_of;
+use crate::printing::named;
+use crate::printing::number;
+use crate::printing::refused;
+use crate::printing::signed;
+use crate::printing::text;
+use header::Given;
+use header::Header;
+use reader::FontStep;
+use subchars::Layout;
+use subchars::Smushing;
+use wattleslate::LookUpAnswer;
+use wattleslate::RowRefusal;
+
+fn given(name: &[u8], g: Given) {
+    text(name);
+    match g {
+        Given::Absent => text(b"absent"),
+        Given::Of(n) => number(n),
+    }
+}
+
+fn smushing(kind: Smushing) {
+    match kind {
+        Smushing::Universal => text(b"universal"),
+        Smushing::Controlled(rules) => named(b"controlled ", rules as usize),
+    }
+}
+
+fn layout(y: Layout) {
+    match y {
+        Layout::FullWidth => text(b"full width"),
+        Layout::Fitting => text(b"fitting"),
+        Layout::Smushing(kind) => smushing(kind),
+    }
+}
+
+// What a header says, behind the number of characters.
+fn says(count: usize, h: Header) {
+    let hardblank = h.hardblank;
+    let direction = h.print_direction;
+    let full = h.full_layout;
+    let tags = h.codetag_count;
+    let y = h.layout;
+    number(count);
+    named(b" characters, hardblank ", hardblank.0 as usize);
+    named(b", height ", h.height);
+    named(b", baseline ", h.baseline);
+    named(b", max_length ", h.max_length);
+    text(b", old_layout ");
+    signed(h.old_layout);
+    named(b", comment_lines ", h.comment_lines);
+    given(b", print_direction ", direction);
+    given(b", full_layout ", full);
+    given(b", codetag_count ", tags);
+    text(b", ");
+    layout(y);
+}
+
+// What a font says.
+pub(crate) fn show_font(font: &[u8]) {
+    let mut codes = [0i32; 512];
+    let mut starts = [0usize; 512];
+    let mut widths = [0usize; 512];
+    match reader::read_lists(font, &mut codes, &mut starts, &mut widths) {
+        FontStep::Read { header, count } => says(count, header),
+        FontStep::Unread(r) => refused(r.number, r.place),
+    }
+}
+
+// The character that is used for a code.
+pub(crate) fn show_entry(font: &[u8], word: &[u8]) {
+    text(b" ");
+    text(word);
+    text(b": ");
+    match wattleslate::look_up(font, code_of(word)) {
+        LookUpAnswer::Used(entry) => {
+            let code = entry.code;
+            text(b"code ");
+            signed(code.0);
+            named(b", start ", entry.start);
+            named(b", width ", entry.width);
+        }
+        LookUpAnswer::Nothing => text(b"none"),
+        LookUpAnswer::Refused(r) => refused(r.number, r.place),
+    }
+}
+
+// A row of the character that is used for a code.
+pub(crate) fn show_row(font: &[u8], word: &[u8], row: &[u8]) {
+    text(b" ");
+    text(word);
+    text(b" ");
+    text(row);
+    text(b": ");
+    match wattleslate::row_refusal(font, code_of(word), row_of(row)) {
+        RowRefusal::NotRefused => {
+            text(b"`");
+            text(wattleslate::row(font, code_of(word), row_of(row)));
+            text(b"`");
+        }
+        RowRefusal::Refused(r) => refused(r.number, r.place),
+    }
+}

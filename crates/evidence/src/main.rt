@@ -1,0 +1,87 @@
+// Answers requests on standard input about the files of its folder: fonts at both sides of every limit, and control files.
+mod asking;
+mod controls;
+mod fonts;
+mod printing;
+
+use asking::behind;
+use asking::load;
+use asking::word_of;
+use libc::STDIN_FILENO;
+use lines::Cursor;
+use lines::LineStep;
+use lines::words;
+use printing::text;
+
+// Requests about a font; the answer begins with the font's name.
+fn about_font(line: &[u8], font: &[u8]) {
+    let arguments = behind(line);
+    if words::starts_with(line, b"read ") {
+        text(word_of(arguments));
+        text(b": ");
+        fonts::show_font(font);
+    }
+    if words::starts_with(line, b"look ") {
+        text(word_of(arguments));
+        fonts::show_entry(font, word_of(behind(arguments)));
+    }
+    if words::starts_with(line, b"row ") {
+        text(word_of(arguments));
+        fonts::show_row(
+            font,
+            word_of(behind(arguments)),
+            word_of(behind(behind(arguments))),
+        );
+    }
+}
+
+// Requests about a control file; the answer begins with the request.
+fn about_control(line: &[u8], control: &[u8]) {
+    if words::starts_with(line, b"control ") {
+        text(line);
+        text(b": ");
+        controls::show_control(control, 8);
+    }
+    if words::starts_with(line, b"short ") {
+        text(line);
+        text(b": ");
+        controls::show_short(control);
+    }
+    if words::starts_with(line, b"map ") {
+        text(line);
+        text(b": ");
+        controls::show_map(control, word_of(behind(behind(line))));
+    }
+}
+
+// One request: a word, a file's name, and for some a code and a row.
+fn request(line: &[u8]) {
+    let mut buffer = [0u8; 65537];
+    let n = load(word_of(behind(line)), &mut buffer);
+    about_font(line, &buffer[..n]);
+    about_control(line, &buffer[..n]);
+    text(b"\n");
+}
+
+// The requests of a text, a line each.
+fn requests(t: &[u8]) {
+    let mut at: usize = 0;
+    loop {
+        let cursor = Cursor { at };
+        match cursor.next(t) {
+            LineStep::Line { start, end, next } => {
+                request(&t[start..end]);
+                at = next.at;
+            }
+            LineStep::NoLine => {
+                return;
+            }
+        }
+    }
+}
+
+fn main() {
+    let mut buffer = [0u8; 16384];
+    let n = io::read_full(STDIN_FILENO, &mut buffer);
+    requests(&buffer[..n]);
+}

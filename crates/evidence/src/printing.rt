@@ -1,0 +1,31 @@
+// Texts and numbers on standard output.
+use libc::STDOUT_FILENO;
+
+pub(crate) fn text(t: &[u8]) {
+    io::write_all(STDOUT_FILENO, t);
+}
+
+pub(crate) fn number(n: usize) {
+    io::print_decimal(STDOUT_FILENO, n as u64);
+}
+
+// A number behind a text.
+pub(crate) fn named(name: &[u8], n: usize) {
+    text(name);
+    number(n);
+}
+
+pub(crate) fn signed(z: i32) {
+    let w = z as i64;
+    if z < 0 {
+        text(b"-");
+        io::print_decimal(STDOUT_FILENO, (0 - w) as u64);
+        return;
+    }
+    io::print_decimal(STDOUT_FILENO, w as u64);
+}
+
+pub(crate) fn refused(number: usize, place: usize) {
+    named(b"refused ", number);
+    named(b" at ", place);
+}

@@ -1,0 +1,3 @@
+-- The laws of a font: its start by places, what it is refused for, and what holds of one that is read.
+pub mod OpenLaws
+pub mod ReadingLaws

@@ -1,0 +1,3 @@
+-- The meaning of a FIGfont.
+pub mod Font
+pub mod Steps

@@ -1,0 +1,198 @@
+-- Each refusal of a header is given exactly when document 01's table says so: both directions, for every line.
+-- Assumes nothing.
+use mathlib.Core.Path.{_≡_, refl, sym, ap, _∙_}
+use mathlib.Core.Bool.{Bool, true, false, cond}
+use mathlib.Core.Logic.{_↔_}
+use mathlib.Core.List.{List, [], _∷_}
+use Prim.Native.Nat.{ℕ, _≤_, _<_}
+use native.Mathlib.Omega.{arith}
+use lib.IntN.{ℤ}
+use lib.ListN.{length, drop}
+use Rattle.ground.specs.Runs.{begins}
+use Rattle.ground.specs.Refusals.{noSignature, badHardblank, badParameters}
+use Rattle.ground.specs.declared.refusals.Refusal.{Refusal}
+use Rattle.ground.proofs.Tests.{clash}
+use Rattle.subchars.specs.declared.SubCharacter.{SubCharacter}
+use Rattle.lines.specs.Words.{isBlank}
+use Rattle.header.specs.declared.Parameters.{Parameters}
+use Rattle.header.specs.declared.ParameterStep.{ParameterStep}
+use Rattle.header.specs.declared.ParameterStep.the-variants.{All, TooFew}
+use Rattle.header.specs.declared.Header.{Header}
+use Rattle.header.specs.declared.HeaderStep.{HeaderStep}
+use Rattle.header.specs.declared.HeaderStep.the-variants.{Good, Refused}
+use Rattle.subchars.specs.Pair.{isHardblank}
+use Rattle.header.specs.Header.{parameterNumbers, parameters, legal, header, refused, headerWith, headerOf, afterHardblank, afterSignature, signature, readHeader}
+use Rattle.header.proofs.ParameterLaws.{too-few}
+
+-- 3: "hardblank absent, or blank, CR, LF, NUL", of what follows flf2a.
+pub data BadHardblank : List ℕ → Type 0 where
+  absent : BadHardblank []
+  unfit : {h : ℕ} {rest : List ℕ} → isHardblank h ≡ false → BadHardblank (h ∷ rest)
+
+-- 4: "no blank or tab after the hardblank, under five numbers, or a value out of range", of what follows the hardblank.
+pub data BadParameters : List ℕ → Type 0 where
+  no-more : BadParameters []
+  no-blank : {x : ℕ} {rest : List ℕ} → isBlank x ≡ false → BadParameters (x ∷ rest)
+  under-five : {x : ℕ} {rest : List ℕ} → isBlank x ≡ true → length (parameterNumbers rest) < 5 → BadParameters (x ∷ rest)
+  out-of-range : {x : ℕ} {rest : List ℕ} (p : Parameters) → isBlank x ≡ true → parameters (parameterNumbers rest) ≡ All p → legal p ≡ false → BadParameters (x ∷ rest)
+
+-- The number of an answer, 0 for a header that is read.
+numberOf : HeaderStep → ℕ
+numberOf (Good x) = 0
+numberOf (Refused r) = r .number
+
+placeOf : HeaderStep → ℕ
+placeOf (Good x) = 0
+placeOf (Refused r) = r .place
+
+-- What an answer to what follows the hardblank is for.
+data After (rest : List ℕ) (r : HeaderStep) : Type 0 where
+  fine : (x : Header) → r ≡ Good x → After rest r
+  bad : BadParameters rest → r ≡ refused badParameters → After rest r
+
+few-numbers : (zs : List ℤ) → parameters zs ≡ TooFew → length zs < 5
+unfolding parameters
+few-numbers [] e = omega arith
+few-numbers (a ∷ []) e = omega arith
+few-numbers (a ∷ b ∷ []) e = omega arith
+few-numbers (a ∷ b ∷ c ∷ []) e = omega arith
+few-numbers (a ∷ b ∷ c ∷ d ∷ []) e = omega arith
+few-numbers (a ∷ b ∷ c ∷ d ∷ f ∷ zs) e = clash (cc)
+
+after-is : (h : SubCharacter) (rest : List ℕ) → After rest (afterHardblank h rest)
+unfolding afterHardblank headerOf
+after-is h [] = bad no-more refl
+after-is h (x ∷ rest) = at-blank (isBlank x) refl
+  where
+    in-range : (p : Parameters) → isBlank x ≡ true → parameters (parameterNumbers rest) ≡ All p → (l : Bool) → legal p ≡ l → After (x ∷ rest) (cond l (Good (header h p)) (refused badParameters))
+    in-range p e q true l = fine (header h p) refl
+    in-range p e q false l = bad (out-of-range p e q l) refl
+
+    named : isBlank x ≡ true → (s : ParameterStep) → parameters (parameterNumbers rest) ≡ s → After (x ∷ rest) (headerWith h s)
+    named e (All p) q = in-range p e q (legal p) refl
+    named e TooFew q = bad (under-five e (few-numbers (parameterNumbers rest) q)) refl
+
+    at-blank : (b : Bool) → isBlank x ≡ b → After (x ∷ rest) (cond b (headerWith h (parameters (parameterNumbers rest))) (refused badParameters))
+    at-blank true e = named e (parameters (parameterNumbers rest)) refl
+    at-blank false e = bad (no-blank e) refl
+
+bad-parameters : (h : SubCharacter) (rest : List ℕ) → BadParameters rest → afterHardblank h rest ≡ refused badParameters
+unfolding afterHardblank headerOf
+bad-parameters h [] no-more = refl
+bad-parameters h (x ∷ rest) (no-blank e) = simp e
+bad-parameters h (x ∷ rest) (under-five e l) = simp e (ap (headerWith h) (sym (too-few (parameterNumbers rest) l)))
+bad-parameters h (x ∷ rest) (out-of-range p e q l) = simp e (ap (headerWith h) q ∙ simp l)
+
+-- What an answer to what follows flf2a is for.
+data Signed (u : List ℕ) (r : HeaderStep) : Type 0 where
+  unblank : BadHardblank u → r ≡ refused badHardblank → Signed u r
+  blank : (h : ℕ) (rest : List ℕ) → u ≡ h ∷ rest → isHardblank h ≡ true → After rest r → Signed u r
+
+signed-is : (u : List ℕ) → Signed u (afterSignature u)
+unfolding afterSignature
+signed-is [] = unblank absent refl
+signed-is (h ∷ rest) = at-hardblank (isHardblank h) refl
+  where
+    at-hardblank : (b : Bool) → isHardblank h ≡ b → Signed (h ∷ rest) (cond b (afterHardblank (record { 0 = h }) rest) (refused badHardblank))
+    at-hardblank true e = blank h rest refl e (after-is (record { 0 = h }) rest)
+    at-hardblank false e = unblank (unfit e) refl
+
+bad-hardblank : (u : List ℕ) → BadHardblank u → afterSignature u ≡ refused badHardblank
+unfolding afterSignature
+bad-hardblank [] absent = refl
+bad-hardblank (h ∷ rest) (unfit e) = simp e
+
+good-hardblank : (u : List ℕ) (h : ℕ) (rest : List ℕ) → u ≡ h ∷ rest → isHardblank h ≡ true → BadParameters rest → afterSignature u ≡ refused badParameters
+unfolding afterSignature
+good-hardblank u h rest e b p = ap afterSignature e ∙ simp b (bad-parameters (record { 0 = h }) rest p)
+
+-- Answers of different numbers are different.
+differ : {X : Type 0} (r s : HeaderStep) → r ≡ s → (numberOf r ≡ numberOf s → ⊥) → X
+unfolding numberOf
+differ r s e f = absurd (f (ap numberOf e))
+
+module _ (t : List ℕ) where
+  with-signature : begins signature t ≡ true → readHeader t ≡ afterSignature (drop 5 t)
+  unfolding readHeader
+  with-signature e = simp e
+
+  without-signature : begins signature t ≡ false → readHeader t ≡ refused noSignature
+  unfolding readHeader
+  without-signature e = simp e
+
+  -- what follows flf2a is no reason for 2
+  signed-not-2 : (u : List ℕ) (r : HeaderStep) → Signed u r → r ≡ refused noSignature → ⊥
+  unfolding numberOf
+  signed-not-2 u r (unblank b e) q = differ _ _ (sym e ∙ q) λ n. omega arith
+  signed-not-2 u r (blank h rest e b (fine x g)) q = differ _ _ (sym g ∙ q) λ n. omega arith
+  signed-not-2 u r (blank h rest e b (bad p g)) q = differ _ _ (sym g ∙ q) λ n. omega arith
+
+  -- 2: "first line does not begin with flf2a"
+  pub refused-2 : readHeader t ≡ refused noSignature ↔ begins signature t ≡ false
+  refused-2 = (λ q. only (begins signature t) refl q, without-signature)
+    where
+      only : (b : Bool) → begins signature t ≡ b → readHeader t ≡ refused noSignature → begins signature t ≡ false
+      only true e q = absurd (signed-not-2 (drop 5 t) (afterSignature (drop 5 t)) (signed-is (drop 5 t)) (sym (with-signature e) ∙ q))
+      only false e q = e
+
+  signed-3 : (u : List ℕ) (r : HeaderStep) → Signed u r → r ≡ refused badHardblank → BadHardblank u
+  unfolding numberOf
+  signed-3 u r (unblank b e) q = b
+  signed-3 u r (blank h rest e b (fine x g)) q = differ _ _ (sym g ∙ q) λ n. omega arith
+  signed-3 u r (blank h rest e b (bad p g)) q = differ _ _ (sym g ∙ q) λ n. omega arith
+
+  -- 3, where the line begins with flf2a
+  pub refused-3 : readHeader t ≡ refused badHardblank ↔ ((begins signature t ≡ true) × BadHardblank (drop 5 t))
+  unfolding numberOf
+  refused-3 = (λ q. only (begins signature t) refl q, λ w. with-signature (w .0) ∙ bad-hardblank (drop 5 t) (w .1))
+    where
+      only : (b : Bool) → begins signature t ≡ b → readHeader t ≡ refused badHardblank → (begins signature t ≡ true) × BadHardblank (drop 5 t)
+      only true e q = (e, signed-3 (drop 5 t) (afterSignature (drop 5 t)) (signed-is (drop 5 t)) (sym (with-signature e) ∙ q))
+      only false e q = differ _ _ (sym (without-signature e) ∙ q) λ n. omega arith
+
+  -- the hardblank is good, and what follows it is not
+  abbrev pub Followed : List ℕ → Type 0
+  Followed u = (h : ℕ) × (rest : List ℕ) × (u ≡ h ∷ rest) × (isHardblank h ≡ true) × BadParameters rest
+
+  signed-4 : (u : List ℕ) (r : HeaderStep) → Signed u r → r ≡ refused badParameters → Followed u
+  unfolding numberOf
+  signed-4 u r (unblank b e) q = differ _ _ (sym e ∙ q) λ n. omega arith
+  signed-4 u r (blank h rest e b (fine x g)) q = differ _ _ (sym g ∙ q) λ n. omega arith
+  signed-4 u r (blank h rest e b (bad p g)) q = (h, rest, e, b, p)
+
+  -- 4, where the line begins with flf2a and a hardblank
+  pub refused-4 : readHeader t ≡ refused badParameters ↔ ((begins signature t ≡ true) × Followed (drop 5 t))
+  unfolding numberOf
+  refused-4 = (
+    λ q. only (begins signature t) refl q,
+    λ w. with-signature (w .0) ∙ good-hardblank (drop 5 t) (w .1 .0) (w .1 .1) (w .1 .2) (w .1 .3) (w .1 .4),
+  )
+    where
+      only : (b : Bool) → begins signature t ≡ b → readHeader t ≡ refused badParameters → (begins signature t ≡ true) × Followed (drop 5 t)
+      only true e q = (e, signed-4 (drop 5 t) (afterSignature (drop 5 t)) (signed-is (drop 5 t)) (sym (with-signature e) ∙ q))
+      only false e q = differ _ _ (sym (without-signature e) ∙ q) λ n. omega arith
+
+  -- a header is refused with no other number, and always at place 0
+  pub record HeaderRefusal (r : Refusal) : Type 0 where
+    pub low : 2 ≤ r .number
+    pub high : r .number ≤ 4
+    pub place : r .place ≡ 0
+
+  known : (k : ℕ) (r : Refusal) → 2 ≤ k → k ≤ 4 → refused k ≡ Refused r → HeaderRefusal r
+  unfolding numberOf placeOf
+  known k r l h e =
+      let n : k ≡ r .number = ap numberOf e in
+      let p : 0 ≡ r .place = ap placeOf e in
+      record { low = omega arith; high = omega arith; place = sym p }
+
+  signed-numbers : (u : List ℕ) (x : HeaderStep) (r : Refusal) → Signed u x → x ≡ Refused r → HeaderRefusal r
+  signed-numbers u x r (unblank b e) q = known badHardblank r (omega arith) (omega arith) (sym e ∙ q)
+  signed-numbers u x r (blank h rest e b (fine y g)) q = clash (cc)
+  signed-numbers u x r (blank h rest e b (bad p g)) q = known badParameters r (omega arith) (omega arith) (sym g ∙ q)
+
+  pub header-refusal : (r : Refusal) → readHeader t ≡ Refused r → HeaderRefusal r
+  header-refusal r q = go (begins signature t) refl
+    where
+      go : (b : Bool) → begins signature t ≡ b → HeaderRefusal r
+      go true e = signed-numbers (drop 5 t) (afterSignature (drop 5 t)) r (signed-is (drop 5 t)) (sym (with-signature e) ∙ q)
+      go false e = known noSignature r (omega arith) (omega arith) (sym (without-signature e) ∙ q)

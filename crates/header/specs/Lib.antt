@@ -1,0 +1,3 @@
+-- The meaning of a font's header line.
+pub mod Header
+pub mod Steps

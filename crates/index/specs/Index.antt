@@ -1,0 +1,47 @@
+-- The index of a font as three lists of numbers: document 01, "The lent index holds 512 entries or more: code, start of the first row line, width,
+-- in file order, and the answer gives how many."
+-- Assumes nothing.
+use mathlib.Core.Path.{_≡_}
+use mathlib.Core.List.{List, map}
+use Prim.Native.Nat.{ℕ, _≤_}
+use lib.IntN.{ℤ}
+use lib.ListN.{length, take}
+use Rattle.lines.specs.Lines.{linesFrom}
+use Rattle.rows.specs.declared.Format.{Format}
+use Rattle.chars.specs.declared.Entry.{Entry}
+use Rattle.chars.specs.Codes.{requiredCodes}
+use Rattle.chars.specs.Chars.{maxCharacters, Ending, finished, stopped, Listing, listing}
+use Rattle.index.specs.declared.Filling.{Filling}
+use Rattle.index.specs.declared.Filling.the-variants.{Filled, Failed}
+
+-- What each list holds of an entry.
+abbrev pub codeOf : Entry → ℤ
+codeOf e = e .code .0
+
+abbrev pub startOf : Entry → ℕ
+startOf e = e .start
+
+abbrev pub widthOf : Entry → ℕ
+widthOf e = e .width
+
+-- The characters from a place of a font on.
+abbrev pub listingAt : Format → List ℕ → ℕ → Listing
+listingAt f s at = listing f (length s) requiredCodes 0 (linesFrom s at)
+
+-- Each list holds 512 numbers or more.
+pub record Room (codes : List ℤ) (starts widths : List ℕ) : Type 0 where
+  pub for-codes : maxCharacters ≤ length codes
+  pub for-starts : maxCharacters ≤ length starts
+  pub for-widths : maxCharacters ≤ length widths
+
+abbrev pub endedBy : Ending → ℕ → Filling
+endedBy finished n = Filled n
+endedBy (stopped r) n = Failed r
+
+-- The answer, and the three lists, which begin with the entries.
+pub record Indexed (x : Listing) (r : Filling) (codes : List ℤ) (starts widths : List ℕ) : Type 0 where
+  pub answer : r ≡ endedBy (x .ending) (length (x .entries))
+  pub few : length (x .entries) ≤ maxCharacters
+  pub codes-are : take (length (x .entries)) codes ≡ map codeOf (x .entries)
+  pub starts-are : take (length (x .entries)) starts ≡ map startOf (x .entries)
+  pub widths-are : take (length (x .entries)) widths ≡ map widthOf (x .entries)

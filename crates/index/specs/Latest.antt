@@ -1,0 +1,35 @@
+-- The last place of each code below 256, the codes of a text's bytes, in an index.
+-- Assumes nothing.
+use mathlib.Core.Path.{_≡_}
+use mathlib.Core.Bool.{cond}
+use mathlib.Core.List.{List}
+use Prim.Native.Nat.{ℕ, suc, _<_}
+use lib.Dec.{ltb}
+use lib.IntN.{ℤ, pos, negsuc}
+use lib.ListN.{length, getD}
+use Rattle.chars.specs.Codes.{sameNumber}
+use Rattle.index.specs.declared.Found.{Found}
+use Rattle.index.specs.declared.Found.the-variants.{At, Nowhere}
+use Rattle.index.specs.LookUp.{lastAt}
+use Rattle.index.specs.declared.latest.Small.{Small}
+use Rattle.index.specs.declared.latest.Small.the-variants.{Below, Beyond}
+
+-- A code below 256, or another one.
+unfoldable pub smallOf : ℤ → Small
+smallOf (pos n) = cond (ltb n 256) (Below n) Beyond
+smallOf (negsuc n) = Beyond
+
+-- One more than a place; 0 for none.
+abbrev pub placed : Found → ℕ
+placed Nowhere = 0
+placed (At k) = suc k
+
+-- The list holds, for each code below 256, one more than its last place.
+pub record Latest (codes : List ℤ) (latest : List ℕ) : Type 0 where
+  pub size : length latest ≡ 256
+  pub places : (c : ℕ) → c < 256 → getD latest c 0 ≡ placed (lastAt (pos c) codes)
+
+-- The list with a place for one code more.
+pub record Noted (code : ℤ) (place : ℕ) (old new : List ℕ) : Type 0 where
+  pub size : length new ≡ length old
+  pub places : (c : ℕ) → c < 256 → getD new c 0 ≡ cond (sameNumber code (pos c)) place (getD old c 0)

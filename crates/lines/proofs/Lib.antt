@@ -1,0 +1,4 @@
+-- The laws of lines, words and numbers.
+pub mod LineLaws
+pub mod WordLaws
+pub mod NumberLaws

@@ -1,0 +1,66 @@
+-- A font in three lists of numbers, and the character that is used for a code: document 01, "The font, line by line".
+-- Assumes nothing.
+use mathlib.Core.Path.{_≡_}
+use mathlib.Core.List.{List, [], _∷_, map}
+use Prim.Native.Nat.{ℕ, zero, suc, _≤_}
+use lib.IntN.{ℤ}
+use lib.ListN.{length, take}
+use Rattle.subchars.specs.declared.Code.{Code}
+use Rattle.header.specs.declared.Header.{Header}
+use Rattle.chars.specs.declared.Entry.{Entry}
+use Rattle.chars.specs.Chars.{maxCharacters}
+use Rattle.font.specs.Font.{Reading, says, refuses, format, withCharacters}
+use Rattle.index.specs.declared.Found.{Found}
+use Rattle.index.specs.declared.Found.the-variants.{At, Nowhere}
+use Rattle.index.specs.Index.{codeOf, startOf, widthOf, listingAt}
+use Rattle.index.specs.LookUp.{lookUp}
+use Rattle.reader.specs.declared.FontStep.{FontStep}
+use Rattle.reader.specs.declared.FontStep.the-variants.{Read, Unread}
+use Rattle.reader.specs.declared.Use.{Use}
+use Rattle.reader.specs.declared.Use.the-variants.{Used, Nothing}
+
+-- "Code, start of the first row line, width, in file order": the lists begin with the entries.
+pub record Lists (es : List Entry) (codes : List ℤ) (starts widths : List ℕ) : Type 0 where
+  pub few : length es ≤ maxCharacters
+  pub codes-are : take (length es) codes ≡ map codeOf es
+  pub starts-are : take (length es) starts ≡ map startOf es
+  pub widths-are : take (length es) widths ≡ map widthOf es
+
+-- "And the answer gives how many."
+abbrev pub stepOf : Reading → FontStep
+stepOf (says h es) = Read h (length es)
+stepOf (refuses r) = Unread r
+
+-- The characters of a font that is read.
+abbrev pub entriesOf : Reading → List Entry
+entriesOf (says h es) = es
+entriesOf (refuses r) = []
+
+-- What reading a font answers, and its characters in the lists.
+pub record ReadInto (m : Reading) (r : FontStep) (codes : List ℤ) (starts widths : List ℕ) : Type 0 where
+  pub answer : r ≡ stepOf m
+  pub lists : Lists (entriesOf m) codes starts widths
+
+-- The same, from the place behind the comment lines on.
+abbrev pub Behind : Header → List ℕ → ℕ → FontStep → List ℤ → List ℕ → List ℕ → Type 0
+Behind h s at r codes starts widths = ReadInto (withCharacters h (listingAt (format h) s at)) r codes starts widths
+
+-- Each list has as many numbers as there are characters.
+pub record Counted (n : ℕ) (codes : List ℤ) (starts widths : List ℕ) : Type 0 where
+  pub in-codes : n ≤ length codes
+  pub in-starts : n ≤ length starts
+  pub in-widths : n ≤ length widths
+
+-- The entry at a place of a list.
+unfoldable pub entryAt : List Entry → ℕ → Use
+entryAt [] k = Nothing
+entryAt (e ∷ es) zero = Used e
+entryAt (e ∷ es) (suc k) = entryAt es k
+
+abbrev pub atFound : Found → List Entry → Use
+atFound (At k) es = entryAt es k
+atFound Nowhere es = Nothing
+
+-- "When codes repeat, the last is used. Otherwise the character with code 0 stands in; if there is none, nothing is drawn."
+unfoldable pub used : Code → List Entry → Use
+used c es = atFound (lookUp c (map codeOf es)) es

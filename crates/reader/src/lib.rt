@@ -1,0 +1,99 @@
+// A font read into three lists of numbers, and the character that is used for a code.
+use chars::Entry;
+use font::Opening;
+use ground::refusals::Refusal;
+use header::Header;
+use index::Filling;
+use index::Found;
+use rows::Format;
+use subchars::Code;
+ghost use mathlib.Core.Path.{_≡_};
+ghost use mathlib.Core.List.{List};
+ghost use lib.ListN.{length};
+ghost use Rattle.chars.specs.declared.Entry.{Entry};
+ghost use Rattle.index.specs.Index.{Room};
+ghost use Rattle.font.specs.Font.{format, reading};
+ghost use Rattle.reader.specs.Reader.{Lists, ReadInto, Behind, Counted, used};
+
+// The header of a font and how many characters it has, or its refusal.
+pub enum FontStep {
+    Read { header: Header, count: usize },
+    Unread(Refusal),
+}
+
+// The character that is used for a code.
+pub enum Use {
+    Used(Entry),
+    Nothing,
+}
+
+// What a header says of the rows.
+fn format_of(h: Header) -> Format
+    ensures { λ r. ⌜ r ≡ format h ⌝ }
+{
+    let hardblank = h.hardblank;
+    Format {
+        hardblank,
+        height: h.height,
+        max_length: h.max_length,
+    }
+}
+
+// Writes the characters of a font whose header was read into the lists; they start at a place.
+fn read_characters(
+    h: Header,
+    font: &[u8],
+    at: usize,
+    codes: &mut [i32],
+    starts: &mut [usize],
+    widths: &mut [usize],
+) -> FontStep
+    requires { ⌜ Room (now codes) (now starts) (now widths) ⌝ }
+    ensures { λ r. ⌜ Behind h (now (font .entry)) at r (now (codes .exit)) (now (starts .exit)) (now (widths .exit)) ⌝ }
+{
+    let f = format_of(h);
+    match index::fill(f, font, at, codes, starts, widths) {
+        Filling::Filled(n) => FontStep::Read {
+            header: h,
+            count: n,
+        },
+        Filling::Failed(r) => FontStep::Unread(r),
+    }
+}
+
+// Reads a font into the lists, one pass over it.
+pub fn read_lists(
+    font: &[u8],
+    codes: &mut [i32],
+    starts: &mut [usize],
+    widths: &mut [usize],
+) -> FontStep
+    requires { ⌜ Room (now codes) (now starts) (now widths) ⌝ }
+    ensures { λ r. ⌜ ReadInto (reading (now (font .entry))) r (now (codes .exit)) (now (starts .exit)) (now (widths .exit)) ⌝ }
+{
+    match font::open_font(font) {
+        Opening::Open { header, at } => read_characters(header, font, at, codes, starts, widths),
+        Opening::Closed(r) => FontStep::Unread(r),
+    }
+}
+
+// The character that is used for a code, of those that the lists begin with.
+pub fn find_entry(
+    codes: &[i32],
+    starts: &[usize],
+    widths: &[usize],
+    count: usize,
+    code: Code,
+) -> Use
+    requires { ⌜ Counted count (now codes) (now starts) (now widths) ⌝ }
+    ensures { λ r. ⌜ ((es : List Entry) → count ≡ length es → Lists es (now (codes .entry)) (now (starts .entry)) (now (widths .entry)) → r ≡ used code es) ⌝ }
+{
+    match index::look_up(&codes[..count], code) {
+        Found::At(k) => Use::Used(Entry {
+            code: Code(codes[k]),
+            start: starts[k],
+            width: widths[k],
+        }),
+        Found::Nowhere => Use::Nothing,
+    }
+}

@@ -1,0 +1,4 @@
+-- The laws of rows in a font that was read, and of the row request.
+pub mod PlaceLaws
+pub mod RowLaws
+pub mod RequestLaws

@@ -1,0 +1,2 @@
+-- The meaning of a row request.
+pub mod Request

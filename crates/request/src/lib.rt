@@ -1,0 +1,98 @@
+// The character that a font has for a code, and the row request: where a row of it stands in the font.
+use chars::Entry;
+use ground::refusals;
+use ground::refusals::Refusal;
+use lines::Cursor;
+use lines::LineStep;
+use reader::FontStep;
+use reader::Use;
+use subchars::Code;
+ghost use mathlib.Core.Path.{_≡_};
+ghost use Rattle.lines.specs.Lines.{after};
+ghost use Rattle.font.specs.Font.{reading};
+ghost use Rattle.request.specs.Request.{sought, badRequest, rowRequest};
+
+// The character that a font has for a code, with the font's height, or the font's refusal.
+pub enum Sought {
+    Found { height: usize, entry: Entry },
+    Missing,
+    Unread(Refusal),
+}
+
+// Where a row stands in a font, or why it is refused.
+pub enum Requested {
+    Row { place: usize, width: usize },
+    Refused(Refusal),
+}
+
+// Where a row of a character starts: that many lines behind its first row line.
+pub fn row_place(font: &[u8], start: usize, row: usize) -> usize
+    ensures { λ r. ⌜ r ≡ after row (now (font .entry)) start ⌝ }
+{
+    let mut at = start;
+    let mut left = row;
+    while 0 < left {
+        let cursor = Cursor { at };
+        match cursor.next(font) {
+            LineStep::Line {
+                start: _,
+                end: _,
+                next,
+            } => {
+                at = next.at;
+            }
+            LineStep::NoLine => {
+                return at;
+            }
+        }
+        left -= 1;
+    }
+    at
+}
+
+// Reads a font, and looks a code up in it.
+pub fn seek(font: &[u8], code: Code) -> Sought
+    ensures { λ r. ⌜ r ≡ sought code (reading (now (font .entry))) ⌝ }
+{
+    let mut codes = [0i32; chars::MAX_CHARACTERS];
+    let mut starts = [0usize; chars::MAX_CHARACTERS];
+    let mut widths = [0usize; chars::MAX_CHARACTERS];
+    match reader::read_lists(font, &mut codes, &mut starts, &mut widths) {
+        FontStep::Read { header, count } => {
+            let height = header.height;
+            match reader::find_entry(&codes, &starts, &widths, count, code) {
+                Use::Used(entry) => Sought::Found { height, entry },
+                Use::Nothing => Sought::Missing,
+            }
+        }
+        FontStep::Unread(r) => Sought::Unread(r),
+    }
+}
+
+fn bad_request() -> Requested
+    ensures { λ r. ⌜ r ≡ badRequest ⌝ }
+{
+    Requested::Refused(Refusal {
+        number: refusals::BAD_SHAPE,
+        place: 0,
+    })
+}
+
+// The row of a character, from the line where it starts.
+pub fn request(font: &[u8], code: Code, row: usize) -> Requested
+    ensures { λ r. ⌜ r ≡ rowRequest (now (font .entry)) code row ⌝ }
+{
+    match seek(font, code) {
+        Sought::Found { height, entry } => {
+            if row < height {
+                let start = entry.start;
+                let width = entry.width;
+                let place = row_place(font, start, row);
+                return Requested::Row { place, width };
+            }
+            bad_request()
+        }
+        Sought::Missing => bad_request(),
+        Sought::Unread(r) => Requested::Refused(r),
+    }
+}

@@ -1,0 +1,90 @@
+-- What a row line holds, by cases; and that it is bad exactly for document 01's reasons.
+-- Assumes nothing.
+use mathlib.Core.Path.{_≡_, refl, sym, ap, _∙_}
+use mathlib.Core.Bool.{Bool, true, false, cond, _&&_}
+use mathlib.Core.List.{List}
+use mathlib.Core.Logic.{_↔_}
+use Prim.Native.Nat.{ℕ, zero, suc, _≤_, _<_}
+use native.Mathlib.Omega.{arith}
+use lib.Dec.{ltb, leb}
+use lib.ListN.{length, take}
+use borrow.Author.Tests.{lt-ltb, le-ltb, le-leb, lt-leb, ltb-false, leb-false, eqb-false, ne-eqb}
+use Rattle.ground.specs.Runs.{all}
+use Rattle.ground.proofs.Tests.{and-left-false, and-right-false, clash}
+use Rattle.rows.specs.declared.Format.{Format}
+use Rattle.rows.specs.declared.RowStep.{RowStep}
+use Rattle.rows.specs.declared.RowStep.the-variants.{Width, BadRow}
+use Rattle.rows.specs.Rows.{row, legal, goodLine, rowOf, hasWidth}
+use Rattle.rows.proofs.BlockLaws.{row-prefix, row-le}
+
+-- The reasons of refusal 6 that a line has by itself: "the line is empty, is longer than Max_Length with its marks, .. or its row holds a byte
+-- under 32 that is not the hardblank".
+pub data BadLine (f : Format) (t : List ℕ) : Type 0 where
+  empty : length t ≡ 0 → BadLine f t
+  long : f .«max_length» < length t → BadLine f t
+  low : all (legal (f .hardblank .0)) (row t) ≡ false → BadLine f t
+
+module _ (f : Format) (t : List ℕ) where
+  bad-line : BadLine f t → goodLine f t ≡ false
+  unfolding goodLine
+  bad-line (empty e) = and-left-false _ _ (and-left-false (ltb 0 (length t)) _ (le-ltb 0 (length t) (omega arith)))
+  bad-line (long h) = and-left-false _ _ (and-right-false (ltb 0 (length t)) _ (lt-leb (length t) (f .«max_length») h))
+  bad-line (low e) = and-right-false (ltb 0 (length t) && leb (length t) (f .«max_length»)) _ e
+
+  only-bad : goodLine f t ≡ false → BadLine f t
+  unfolding goodLine
+  only-bad e = go (ltb 0 (length t)) refl (leb (length t) (f .«max_length»)) refl (all (legal (f .hardblank .0)) (row t)) refl e
+    where
+      go : (a : Bool) → ltb 0 (length t) ≡ a → (b : Bool) → leb (length t) (f .«max_length») ≡ b → (c : Bool) → all (legal (f .hardblank .0)) (row t) ≡ c → (a && b && c) ≡ false → BadLine f t
+      go false p b q c r x = empty (omega (arith, ltb-false 0 (length t) p))
+      go true p false q c r x = long (leb-false (length t) (f .«max_length») q)
+      go true p true q c r x = low (r ∙ x)
+
+  pub row-bad : BadLine f t → BadRow ≡ rowOf f t
+  unfolding rowOf
+  row-bad b = simp (bad-line b)
+
+  -- a row line is bad exactly for these reasons
+  pub bad-exactly : rowOf f t ≡ BadRow ↔ BadLine f t
+  unfolding rowOf
+  bad-exactly = (λ e. only-bad (go (goodLine f t) e), λ b. sym (row-bad b))
+    where
+      go : (b : Bool) → cond b (Width (length (row t))) BadRow ≡ BadRow → b ≡ false
+      go true e = clash (cc)
+      go false e = refl
+
+  -- the line as the code finds it: its row is the first k bytes
+  module _ (k : ℕ) (e : k ≡ length (row t)) where
+    row-part : take k t ≡ row t
+    row-part = ap (λ (j : ℕ). take j t) e ∙ row-prefix t
+
+    pub width-le : k ≤ length t
+    width-le = omega (arith, row-le t)
+
+    pub row-low : all (legal (f .hardblank .0)) (take k t) ≡ false → BadRow ≡ rowOf f t
+    row-low p = row-bad (low (ap (all (legal (f .hardblank .0))) (sym row-part) ∙ p))
+
+    pub row-good : (length t ≡ 0 → ⊥) → length t ≤ f .«max_length» → all (legal (f .hardblank .0)) (take k t) ≡ true → Width k ≡ rowOf f t
+    unfolding rowOf goodLine
+    row-good h l p =
+        simp (lt-ltb 0 (length t) (some (length t) h), le-leb (length t) (f .«max_length») l, ap (all (legal (f .hardblank .0))) (sym row-part) ∙ p) (ap Width e)
+      where
+        some : (n : ℕ) → (n ≡ 0 → ⊥) → 0 < n
+        some zero q = absurd (q refl)
+        some (suc n) q = omega arith
+
+-- The reasons of refusal 6 for a row of a character whose first row has width w: these, and "its row differs in width from the character's first row".
+pub data BadRowLine (f : Format) (w : ℕ) (t : List ℕ) : Type 0 where
+  by-itself : BadLine f t → BadRowLine f w t
+  other-width : (v : ℕ) → rowOf f t ≡ Width v → (v ≡ w → ⊥) → BadRowLine f w t
+
+pub width-exactly : (f : Format) (w : ℕ) (t : List ℕ) → hasWidth (rowOf f t) w ≡ false ↔ BadRowLine f w t
+width-exactly f w t = (λ e. to (rowOf f t) refl e, from)
+  where
+    to : (r : RowStep) → rowOf f t ≡ r → hasWidth r w ≡ false → BadRowLine f w t
+    to (Width v) p e = other-width v p (eqb-false v w e)
+    to BadRow p e = by-itself (bad-exactly f t .0 p)
+
+    from : BadRowLine f w t → hasWidth (rowOf f t) w ≡ false
+    from (by-itself b) = ap (λ (r : RowStep). hasWidth r w) (bad-exactly f t .1 b)
+    from (other-width v p n) = ap (λ (r : RowStep). hasWidth r w) p ∙ ne-eqb v w n

@@ -1,0 +1,178 @@
+// The row lines of a FIGcharacter: what one holds, and the rows of a character one after another.
+use ground::refusals;
+use ground::refusals::Refusal;
+use lines::Cursor;
+use lines::LineStep;
+use subchars::SubCharacter;
+ghost use mathlib.Core.Path.{_≡_};
+ghost use lib.ListN.{length};
+ghost use Rattle.ground.specs.Runs.{all};
+ghost use Rattle.rows.specs.Rows.{row, legal, rowOf};
+ghost use Rattle.rows.specs.Steps.{badRowAt, rowAt, sameAt, rowsAt, charAt};
+
+// What a font's header says of its row lines.
+pub struct Format {
+    pub hardblank: SubCharacter,
+    pub height: usize,
+    pub max_length: usize,
+}
+
+// What a row line holds.
+pub enum RowStep {
+    Width(usize),
+    BadRow,
+}
+
+// The row line at a place of a font, and the place behind it.
+pub enum RowAt {
+    Row { width: usize, next: usize },
+    NoRow(Refusal),
+}
+
+// The rows of a character, and the place behind them.
+pub enum CharStep {
+    Char { width: usize, next: usize },
+    NoChar(Refusal),
+}
+
+// How many bytes of a line stand before its endmarks, its last block of equal bytes.
+fn row_width(t: &[u8]) -> usize
+    ensures { λ n. ⌜ n ≡ length (row (now (t .entry))) ⌝ }
+{
+    let size = t.len();
+    if size == 0 {
+        return 0;
+    }
+    let endmark = t[size - 1];
+    let mut n = size;
+    while 0 < n {
+        if endmark != t[n - 1] {
+            return n;
+        }
+        n -= 1;
+    }
+    n
+}
+
+fn is_legal(b: u8, hardblank: SubCharacter) -> bool
+    ensures { λ r. ⌜ r ≡ legal (hardblank .0) b ⌝ }
+{
+    if 32 <= b {
+        return true;
+    }
+    b == hardblank.0
+}
+
+fn are_legal(t: &[u8], hardblank: SubCharacter) -> bool
+    ensures { λ r. ⌜ r ≡ all (legal (hardblank .0)) (now (t .entry)) ⌝ }
+{
+    let mut i: usize = 0;
+    while i < t.len() {
+        if is_legal(t[i], hardblank) {
+            i += 1;
+        } else {
+            return false;
+        }
+    }
+    true
+}
+
+// What a row line holds. Nothing else knows how a row is written.
+pub fn row_of(f: Format, t: &[u8]) -> RowStep
+    ensures { λ r. ⌜ r ≡ rowOf f (now (t .entry)) ⌝ }
+{
+    if t.len() == 0 {
+        return RowStep::BadRow;
+    }
+    if f.max_length < t.len() {
+        return RowStep::BadRow;
+    }
+    let width = row_width(t);
+    let hardblank = f.hardblank;
+    if are_legal(&t[..width], hardblank) {
+        return RowStep::Width(width);
+    }
+    RowStep::BadRow
+}
+
+// A refusal of the line that starts at a place.
+fn bad_row(at: usize) -> RowAt
+    ensures { λ r. ⌜ r ≡ badRowAt at ⌝ }
+{
+    RowAt::NoRow(Refusal {
+        number: refusals::BAD_ROW,
+        place: at,
+    })
+}
+
+// The row line at a place of a font.
+pub fn row_at(f: Format, s: &[u8], at: usize) -> RowAt
+    ensures { λ r. ⌜ r ≡ rowAt f (now (s .entry)) at ⌝ }
+{
+    let cursor = Cursor { at };
+    match cursor.next(s) {
+        LineStep::Line { start, end, next } => {
+            let n = next.at;
+            match row_of(f, &s[start..end]) {
+                RowStep::Width(w) => RowAt::Row { width: w, next: n },
+                RowStep::BadRow => bad_row(at),
+            }
+        }
+        LineStep::NoLine => RowAt::NoRow(Refusal {
+            number: refusals::MISSING_LINE,
+            place: s.len(),
+        }),
+    }
+}
+
+// The same, where it has the given width.
+fn same_at(f: Format, s: &[u8], at: usize, width: usize) -> RowAt
+    ensures { λ r. ⌜ r ≡ sameAt f (now (s .entry)) at width ⌝ }
+{
+    let r = row_at(f, s, at);
+    match r {
+        RowAt::Row { width: w, next: _ } => {
+            if w == width {
+                return r;
+            }
+            bad_row(at)
+        }
+        RowAt::NoRow(_) => r,
+    }
+}
+
+// As many rows as `count` says, of the given width.
+fn rows_at(f: Format, s: &[u8], from: usize, count: usize, width: usize) -> CharStep
+    ensures { λ r. ⌜ r ≡ rowsAt f (now (s .entry)) from count width ⌝ }
+{
+    let mut at = from;
+    let mut left = count;
+    while 0 < left {
+        match same_at(f, s, at, width) {
+            RowAt::Row { width: _, next } => {
+                at = next;
+            }
+            RowAt::NoRow(r) => {
+                return CharStep::NoChar(r);
+            }
+        }
+        left -= 1;
+    }
+    CharStep::Char { width, next: at }
+}
+
+// The rows of the character whose first row line is at a place of a font.
+pub fn char_at(f: Format, s: &[u8], at: usize) -> CharStep
+    ensures { λ r. ⌜ r ≡ charAt f (now (s .entry)) at ⌝ }
+{
+    let height = f.height;
+    match row_at(f, s, at) {
+        RowAt::Row { width, next } => {
+            if height == 0 {
+                return CharStep::Char { width, next };
+            }
+            rows_at(f, s, next, height - 1, width)
+        }
+        RowAt::NoRow(r) => CharStep::NoChar(r),
+    }
+}

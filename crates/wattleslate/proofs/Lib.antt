@@ -1,0 +1,9 @@
+-- The laws of the public calls.
+pub mod JoinCases
+pub mod Examples
+pub mod JoinRefusals
+pub mod LookUpLaws
+pub mod RowLaws
+pub mod ControlCases
+pub mod ControlRefusals
+pub mod ToldApart

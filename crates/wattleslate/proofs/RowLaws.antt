@@ -1,0 +1,105 @@
+-- The calls `row` and `row_refusal` agree for every input: the number is 0 exactly where the row is a row of the character that is used.
+-- Assumes nothing.
+use mathlib.Core.Path.{_≡_, refl, sym, ap, _∙_}
+use mathlib.Core.Bool.{true, true≢false, false≢true}
+use mathlib.Core.List.{List, []}
+use mathlib.Core.Logic.{_↔_}
+use Prim.Native.Nat.{ℕ, _+_, _-_, _≤_}
+use native.Mathlib.Omega.{arith}
+use lib.ListN.{take, drop}
+use Rattle.ground.specs.declared.refusals.Refusal.{Refusal}
+use Rattle.ground.specs.Refusals.{badShape}
+use Rattle.subchars.specs.declared.Code.{Code}
+use Rattle.lines.specs.Lines.{textAt}
+use Rattle.rows.specs.Rows.{row}
+use Rattle.font.specs.Font.{refuses, reading}
+use Rattle.request.specs.declared.Requested.{Requested}
+use Rattle.request.specs.declared.Requested.the-variants as requested-is
+use Rattle.request.specs.Request.{rowRequest}
+use Rattle.request.proofs.RowLaws.{used-stands}
+use Rattle.request.proofs.RequestLaws.{Given, row-only, row-if, BadRequest, refused-17, refused-font, refused-some}
+use Rattle.wattleslate.specs.declared.RowRefusal.{RowRefusal}
+use Rattle.wattleslate.specs.declared.RowRefusal.the-variants.{NotRefused, Refused}
+use Rattle.wattleslate.specs.RowCall.{partOf, rowBytes, RowTold, rowTells, requestTold, rowTold}
+
+-- The answers to a request.
+module _ (s : List ℕ) (c : Code) (r : ℕ) (x : Requested) (p : x ≡ rowRequest s c r) where
+  pub by-request : requestTold x ≡ rowTold s c r
+  unfolding rowTold
+  by-request = ap requestTold p
+
+  pub part-by-request : partOf s x ≡ rowBytes s c r
+  unfolding rowBytes
+  part-by-request = ap (partOf s) p
+
+-- The part from a place to the place behind its width.
+pub row-part : (s : List ℕ) (c : Code) (r p w : ℕ) → requested-is.Row p w ≡ rowRequest s c r → take (p + w - p) (drop p s) ≡ rowBytes s c r
+row-part s c r p w e = let n : p + w - p ≡ w = omega arith in ap (λ (j : ℕ). take j (drop p s)) n ∙ part-by-request s c r (requested-is.Row p w) e
+
+-- two answers that tell the same are the same
+pub refusals-apart : (a b : RowRefusal) → rowTells a ≡ rowTells b → a ≡ b
+refusals-apart NotRefused NotRefused e = refl
+refusals-apart NotRefused (Refused q) e = absurd (false≢true (ap (λ (t : RowTold). t .refused) e))
+refusals-apart (Refused q) NotRefused e = absurd (true≢false (ap (λ (t : RowTold). t .refused) e))
+refusals-apart (Refused q) (Refused z) e = ap (λ (t : RowTold). Refused (record { number = t .number; place = t .place })) e
+
+module _ (s : List ℕ) (c : Code) (r : ℕ) where
+  -- The row of the character that is used: where it stands, and its bytes, which are the row of the line there.
+  pub record IsRow : Type 0 where
+    pub place : ℕ
+    pub width : ℕ
+    pub given : Given s c r place width
+    pub bytes : rowBytes s c r ≡ take width (drop place s)
+    pub whole : rowBytes s c r ≡ row (textAt s place)
+
+  is-row : (p w : ℕ) → rowRequest s c r ≡ requested-is.Row p w → IsRow
+  unfolding rowBytes
+  is-row p w e =
+      let g = row-only s c r p w e in
+      let t = used-stands s (g .header) (g .entries) (g .said) (g .entry) c (g .is-used) r (g .below) in
+      let b : rowBytes s c r ≡ take w (drop p s) = ap (partOf s) e in
+      record {
+        place = p;
+        width = w;
+        given = g;
+        bytes = b;
+        whole = b ∙ ap (λ (j : ℕ). take j (drop p s)) (g .width) ∙ ap (λ (j : ℕ). take (g .entry .width) (drop j s)) (g .place) ∙ t .bytes ∙ sym (ap (λ (j : ℕ). row (textAt s j)) (g .place));
+      }
+
+  -- Number 0 is told exactly where the row is given.
+  pub row-agrees : rowTold s c r .number ≡ 0 ↔ IsRow
+  unfolding rowTold
+  row-agrees = (λ e. to (rowRequest s c r) refl e, λ w. ap (λ (x : Requested). requestTold x .number) (row-if s c r (w .place) (w .width) (w .given)))
+    where
+      to : (x : Requested) → rowRequest s c r ≡ x → requestTold x .number ≡ 0 → IsRow
+      to (requested-is.Row p w) q e = is-row p w q
+      to (requested-is.Refused z) q e = absurd (omega (arith, refused-some s c r z q))
+
+  -- A refused row is empty, and what is not refused has number and place 0.
+  pub row-refused : rowTold s c r .refused ≡ true → rowBytes s c r ≡ []
+  unfolding rowTold rowBytes
+  row-refused e = go (rowRequest s c r) e
+    where
+      go : (x : Requested) → requestTold x .refused ≡ true → partOf s x ≡ []
+      go (requested-is.Row p w) q = absurd (false≢true q)
+      go (requested-is.Refused z) q = refl
+
+  told-refused : (q : Refusal) → rowTold s c r ≡ rowTells (Refused q) → rowRequest s c r ≡ requested-is.Refused q
+  unfolding rowTold
+  told-refused q e = go (rowRequest s c r) e
+    where
+      go : (x : Requested) → requestTold x ≡ rowTells (Refused q) → x ≡ requested-is.Refused q
+      go (requested-is.Row p w) k = absurd (false≢true (ap (λ (t : RowTold). t .refused) k))
+      go (requested-is.Refused z) k = ap (λ (t : RowTold). requested-is.Refused (record { number = t .number; place = t .place })) k
+
+  refused-told : (q : Refusal) → rowRequest s c r ≡ requested-is.Refused q → rowTold s c r ≡ rowTells (Refused q)
+  unfolding rowTold
+  refused-told q e = ap requestTold e
+
+  -- The font's refusals, exactly those of the font.
+  pub told-font : (q : Refusal) → q .number ≤ 8 → rowTold s c r ≡ rowTells (Refused q) ↔ reading s ≡ refuses q
+  told-font q h = (λ e. refused-font s c r q h .0 (told-refused q e), λ m. refused-told q (refused-font s c r q h .1 m))
+
+  -- 17, "join or row request of bad shape", exactly then, at 0.
+  pub told-17 : (p : ℕ) → rowTold s c r ≡ record { refused = true; number = badShape; place = p } ↔ ((p ≡ 0) × BadRequest s c r)
+  told-17 p = (λ e. refused-17 s c r p .0 (told-refused (record { number = badShape; place = p }) e), λ w. refused-told (record { number = badShape; place = p }) (refused-17 s c r p .1 w))

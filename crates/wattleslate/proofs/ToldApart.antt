@@ -1,0 +1,54 @@
+-- What an answer tells is all of it: two answers of a call that tell the same are the same.
+-- Assumes nothing.
+use mathlib.Core.Path.{_≡_, refl, ap, ap₂}
+use mathlib.Core.Bool.{true≢false, false≢true}
+use Rattle.flc.specs.declared.ControlAnswer.{ControlAnswer}
+use Rattle.flc.specs.declared.ControlAnswer.the-variants as control-is
+use Rattle.wattleslate.specs.declared.JoinAnswer.{JoinAnswer}
+use Rattle.wattleslate.specs.declared.JoinAnswer.the-variants as join-is
+use Rattle.wattleslate.specs.declared.LookUpAnswer.{LookUpAnswer}
+use Rattle.wattleslate.specs.declared.LookUpAnswer.the-variants as look-up-is
+use Rattle.wattleslate.specs.declared.MapAnswer.{MapAnswer}
+use Rattle.wattleslate.specs.declared.MapAnswer.the-variants as map-is
+use Rattle.wattleslate.specs.declared.RowRefusal.{RowRefusal}
+use Rattle.wattleslate.specs.declared.RowRefusal.the-variants as row-is
+use Rattle.wattleslate.specs.JoinCall.{JoinTold, joinTells}
+use Rattle.wattleslate.specs.LookUpCall.{LookUpTold, lookUpTells}
+use Rattle.wattleslate.specs.RowCall.{RowTold, rowTells}
+use Rattle.wattleslate.specs.ControlCall.{ControlTold, controlTells}
+use Rattle.wattleslate.specs.MapCall.{MapTold, mapTells}
+
+pub join-apart : (r s : JoinAnswer) → joinTells r ≡ joinTells s → r ≡ s
+join-apart (join-is.Joined o w) (join-is.Joined p v) e = ap₂ join-is.Joined (ap (λ (t : JoinTold). t .overlap) e) (ap (λ (t : JoinTold). t .width) e)
+join-apart (join-is.Joined o w) (join-is.Refused r) e = absurd (false≢true (ap (λ (t : JoinTold). t .refused) e))
+join-apart (join-is.Refused r) (join-is.Joined o w) e = absurd (true≢false (ap (λ (t : JoinTold). t .refused) e))
+join-apart (join-is.Refused r) (join-is.Refused s) e = ap (λ (t : JoinTold). join-is.Refused (record { number = t .number; place = t .place })) e
+
+pub control-apart : (r s : ControlAnswer) → controlTells r ≡ controlTells s → r ≡ s
+control-apart (control-is.Read n k) (control-is.Read m j) e = ap₂ control-is.Read (ap (λ (t : ControlTold). t .commands) e) (ap (λ (t : ControlTold). t .stages) e)
+control-apart (control-is.Read n k) (control-is.Refused r) e = absurd (false≢true (ap (λ (t : ControlTold). t .refused) e))
+control-apart (control-is.Refused r) (control-is.Read n k) e = absurd (true≢false (ap (λ (t : ControlTold). t .refused) e))
+control-apart (control-is.Refused r) (control-is.Refused s) e = ap (λ (t : ControlTold). control-is.Refused (record { number = t .number; place = t .place })) e
+
+pub map-apart : (r s : MapAnswer) → mapTells r ≡ mapTells s → r ≡ s
+map-apart (map-is.Mapped y) (map-is.Mapped z) e = ap (λ (t : MapTold). map-is.Mapped (record { 0 = t .code })) e
+map-apart (map-is.Mapped y) (map-is.Refused r) e = absurd (false≢true (ap (λ (t : MapTold). t .refused) e))
+map-apart (map-is.Refused r) (map-is.Mapped z) e = absurd (true≢false (ap (λ (t : MapTold). t .refused) e))
+map-apart (map-is.Refused r) (map-is.Refused s) e = ap (λ (t : MapTold). map-is.Refused (record { number = t .number; place = t .place })) e
+
+pub row-apart : (r s : RowRefusal) → rowTells r ≡ rowTells s → r ≡ s
+row-apart row-is.NotRefused row-is.NotRefused e = refl
+row-apart row-is.NotRefused (row-is.Refused r) e = absurd (false≢true (ap (λ (t : RowTold). t .refused) e))
+row-apart (row-is.Refused r) row-is.NotRefused e = absurd (true≢false (ap (λ (t : RowTold). t .refused) e))
+row-apart (row-is.Refused r) (row-is.Refused s) e = ap (λ (t : RowTold). row-is.Refused (record { number = t .number; place = t .place })) e
+
+pub look-up-apart : (r s : LookUpAnswer) → lookUpTells r ≡ lookUpTells s → r ≡ s
+look-up-apart (look-up-is.Used d) (look-up-is.Used f) e = ap (λ (t : LookUpTold). look-up-is.Used (record { code = record { 0 = t .code }; start = t .start; width = t .width })) e
+look-up-apart (look-up-is.Used d) look-up-is.Nothing e = absurd (true≢false (ap (λ (t : LookUpTold). t .found) e))
+look-up-apart (look-up-is.Used d) (look-up-is.Refused r) e = absurd (true≢false (ap (λ (t : LookUpTold). t .found) e))
+look-up-apart look-up-is.Nothing (look-up-is.Used d) e = absurd (false≢true (ap (λ (t : LookUpTold). t .found) e))
+look-up-apart look-up-is.Nothing look-up-is.Nothing e = refl
+look-up-apart look-up-is.Nothing (look-up-is.Refused r) e = absurd (false≢true (ap (λ (t : LookUpTold). t .refused) e))
+look-up-apart (look-up-is.Refused r) (look-up-is.Used d) e = absurd (false≢true (ap (λ (t : LookUpTold). t .found) e))
+look-up-apart (look-up-is.Refused r) look-up-is.Nothing e = absurd (true≢false (ap (λ (t : LookUpTold). t .refused) e))
+look-up-apart (look-up-is.Refused r) (look-up-is.Refused s) e = ap (λ (t : LookUpTold). look-up-is.Refused (record { number = t .number; place = t .place })) e

@@ -1,0 +1,6 @@
+-- The meaning of the public calls.
+pub mod JoinCall
+pub mod LookUpCall
+pub mod RowCall
+pub mod ControlCall
+pub mod MapCall

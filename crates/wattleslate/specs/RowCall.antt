@@ -1,0 +1,37 @@
+-- The calls `row` and `row_refusal`: what they answer, for every input. Both are told by the one definition of a row request.
+-- Assumes nothing.
+use Prim.Native.Nat.{ℕ}
+use mathlib.Core.Bool.{Bool, true, false}
+use mathlib.Core.List.{List, []}
+use lib.ListN.{take, drop}
+use Rattle.subchars.specs.declared.Code.{Code}
+use Rattle.request.specs.declared.Requested.{Requested}
+use Rattle.request.specs.declared.Requested.the-variants as requested-is
+use Rattle.request.specs.Request.{rowRequest}
+use Rattle.wattleslate.specs.declared.RowRefusal.{RowRefusal}
+use Rattle.wattleslate.specs.declared.RowRefusal.the-variants.{NotRefused, Refused}
+
+-- "A row request gives the row as a part of the font"; "a refused row is empty". The part is fixed by its place and its width.
+abbrev pub partOf : List ℕ → Requested → List ℕ
+partOf s (requested-is.Row place width) = take width (drop place s)
+partOf s (requested-is.Refused q) = []
+
+unfoldable pub rowBytes : List ℕ → Code → ℕ → List ℕ
+rowBytes s c r = partOf s (rowRequest s c r)
+
+-- "A call beside the row request tells its number." "A refusal answers its number and place"; both are 0 where there is none.
+pub record RowTold : Type 0 where
+  pub refused : Bool
+  pub number : ℕ
+  pub place : ℕ
+
+abbrev pub rowTells : RowRefusal → RowTold
+rowTells NotRefused = record { refused = false; number = 0; place = 0 }
+rowTells (Refused q) = record { refused = true; number = q .number; place = q .place }
+
+abbrev pub requestTold : Requested → RowTold
+requestTold (requested-is.Row place width) = rowTells NotRefused
+requestTold (requested-is.Refused q) = rowTells (Refused q)
+
+unfoldable pub rowTold : List ℕ → Code → ℕ → RowTold
+rowTold s c r = requestTold (rowRequest s c r)

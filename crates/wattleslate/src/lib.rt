@@ -1,0 +1,184 @@
+// The public calls. Each is total: it tests its own input, and its `ensures` hold for every input.
+mod controlling;
+mod joining;
+
+use chars::Entry;
+use flc::ControlAnswer;
+use flc::mapping;
+use ground::limits;
+use ground::refusals;
+use ground::refusals::Refusal;
+use request::Requested;
+use request::Sought;
+use subchars::Code;
+use subchars::Direction;
+use subchars::Layout;
+use subchars::Mode;
+use subchars::SubCharacter;
+ghost use mathlib.Core.Path.{_≡_};
+ghost use lib.ListN.{length};
+ghost use Rattle.flc.specs.Lists.{stageList, firstList, lastList, newList};
+ghost use Rattle.wattleslate.specs.JoinCall.{joinTells, joinTold, joinArea};
+ghost use Rattle.wattleslate.specs.LookUpCall.{lookUpTells, lookUpTold};
+ghost use Rattle.wattleslate.specs.RowCall.{rowTells, rowTold, rowBytes};
+ghost use Rattle.wattleslate.specs.ControlCall.{controlTells, controlReading, controlTold};
+ghost use Rattle.wattleslate.specs.MapCall.{mapTells, mapTold};
+
+// What a look-up answers: the entry used, with its own code, start and width; that there is none; or the font's refusal.
+pub enum LookUpAnswer {
+    Used(Entry),
+    Nothing,
+    Refused(Refusal),
+}
+
+// Whether a row request is refused.
+pub enum RowRefusal {
+    NotRefused,
+    Refused(Refusal),
+}
+
+// What mapping a code answers: the new code, or a refusal of the control file.
+pub enum MapAnswer {
+    Mapped(Code),
+    Refused(Refusal),
+}
+
+// What a join answers: the overlap and the width of the result, or a refusal.
+pub enum JoinAnswer {
+    Joined { overlap: usize, width: usize },
+    Refused(Refusal),
+}
+
+// The character of a font that is used for a code: the last that has it, or else the last with code 0. The font's refusals.
+pub fn look_up(font: &[u8], code: Code) -> LookUpAnswer
+    ensures answer { λ r. ⌜ lookUpTells r ≡ lookUpTold (now (font .entry)) code ⌝ }
+{
+    match request::seek(font, code) {
+        Sought::Found { height: _, entry } => LookUpAnswer::Used(entry),
+        Sought::Missing => LookUpAnswer::Nothing,
+        Sought::Unread(r) => LookUpAnswer::Refused(r),
+    }
+}
+
+// A row of the character that is used for a code, as a part of the font: its bytes as they stand there. A refused row is empty.
+pub fn row<'a>(font: &'a [u8], code: Code, row: usize) -> &'a [u8]
+    ensures part { λ r. ⌜ now r ≡ rowBytes (now (font .entry)) code row ⌝ }
+{
+    match request::request(font, code, row) {
+        Requested::Row { place, width } => {
+            let end = place + width;
+            &font[place..end]
+        }
+        Requested::Refused(_) => &font[0..0],
+    }
+}
+
+// The number and place of the same row request: the font's refusals, then 17.
+pub fn row_refusal(font: &[u8], code: Code, row: usize) -> RowRefusal
+    ensures answer { λ r. ⌜ rowTells r ≡ rowTold (now (font .entry)) code row ⌝ }
+{
+    match request::request(font, code, row) {
+        Requested::Row { place: _, width: _ } => RowRefusal::NotRefused,
+        Requested::Refused(r) => RowRefusal::Refused(r),
+    }
+}
+
+// Reads a control file into four lists of 256 entries or more, with zeros behind: each mapping command's stage, first and last code, and first
+// new code. The answer counts commands and stages. A refusal (9 to 14) leaves the lists all zeros.
+pub fn read_control(
+    control: &[u8],
+    stages: &mut [usize],
+    firsts: &mut [i32],
+    lasts: &mut [i32],
+    news: &mut [i32],
+) -> ControlAnswer
+    ensures answer { λ r. ⌜ controlTells r ≡ controlTold (controlReading (length (now (stages .entry))) (length (now (firsts .entry))) (length (now (lasts .entry))) (length (now (news .entry))) (now (control .entry))) ⌝ }
+    ensures stages { λ r. ⌜ now (stages .exit) ≡ stageList (controlReading (length (now (stages .entry))) (length (now (firsts .entry))) (length (now (lasts .entry))) (length (now (news .entry))) (now (control .entry))) (length (now (stages .entry))) ⌝ }
+    ensures firsts { λ r. ⌜ now (firsts .exit) ≡ firstList (controlReading (length (now (stages .entry))) (length (now (firsts .entry))) (length (now (lasts .entry))) (length (now (news .entry))) (now (control .entry))) (length (now (firsts .entry))) ⌝ }
+    ensures lasts { λ r. ⌜ now (lasts .exit) ≡ lastList (controlReading (length (now (stages .entry))) (length (now (firsts .entry))) (length (now (lasts .entry))) (length (now (news .entry))) (now (control .entry))) (length (now (lasts .entry))) ⌝ }
+    ensures news { λ r. ⌜ now (news .exit) ≡ newList (controlReading (length (now (stages .entry))) (length (now (firsts .entry))) (length (now (lasts .entry))) (length (now (news .entry))) (now (control .entry))) (length (now (news .entry))) ⌝ }
+{
+    if !controlling::has_room(stages.len(), firsts.len(), lasts.len(), news.len()) {
+        return flc::refuse(
+            Refusal {
+                number: refusals::AREA_TOO_SMALL,
+                place: 0,
+            },
+            stages,
+            firsts,
+            lasts,
+            news,
+        );
+    }
+    flc::read_lists(control, stages, firsts, lasts, news)
+}
+
+// Maps a code by a control file, stage after stage. Refusals are those of the file (10 to 14).
+pub fn map_code(control: &[u8], code: Code) -> MapAnswer
+    ensures answer { λ r. ⌜ mapTells r ≡ mapTold (now (control .entry)) code ⌝ }
+{
+    let mut stages = [0usize; limits::MAX_COMMANDS];
+    let mut firsts = [0i32; limits::MAX_COMMANDS];
+    let mut lasts = [0i32; limits::MAX_COMMANDS];
+    let mut news = [0i32; limits::MAX_COMMANDS];
+    match flc::read_lists(control, &mut stages, &mut firsts, &mut lasts, &mut news) {
+        ControlAnswer::Read {
+            commands,
+            stages: _,
+        } => MapAnswer::Mapped(mapping::map_by(&stages, &firsts, &lasts, &news, commands, code)),
+        ControlAnswer::Refused(r) => MapAnswer::Refused(r),
+    }
+}
+
+// Puts a FIGcharacter to a line of equal height, as the layout says, and writes the result to `out`, row after row with zeros behind.
+// Writing left to right the character goes to the line's right, otherwise to its left. A refusal (17, 16, 9) leaves `out` all zeros.
+pub fn join(
+    line: &[u8],
+    line_width: usize,
+    character: &[u8],
+    character_width: usize,
+    height: usize,
+    hardblank: SubCharacter,
+    layout: Layout,
+    direction: Direction,
+    out: &mut [u8],
+) -> JoinAnswer
+    ensures answer { λ r. ⌜ joinTells r ≡ joinTold (record { layout = layout; direction = direction; hardblank = hardblank }) height «line_width» (now (line .entry)) «character_width» (now (character .entry)) (length (now (out .entry))) ⌝ }
+    ensures area { λ r. ⌜ now (out .exit) ≡ joinArea (record { layout = layout; direction = direction; hardblank = hardblank }) height «line_width» (now (line .entry)) «character_width» (now (character .entry)) (length (now (out .entry))) ⌝ }
+{
+    let mode = Mode {
+        layout,
+        direction,
+        hardblank,
+    };
+    if !join::shape::good_shape(
+        mode,
+        height,
+        line_width,
+        line.len(),
+        character_width,
+        character.len(),
+    ) {
+        return joining::refuse(refusals::BAD_SHAPE, out);
+    }
+    match direction {
+        Direction::LeftToRight => joining::join_blocks(
+            mode,
+            height,
+            line,
+            line_width,
+            character,
+            character_width,
+            out,
+        ),
+        Direction::RightToLeft => joining::join_blocks(
+            mode,
+            height,
+            character,
+            character_width,
+            line,
+            line_width,
+            out,
+        ),
+    }
+}
