@@ -1,0 +1,3 @@
+-- The laws of drawing.
+pub mod CharacterLaws
+pub mod TextLaws
