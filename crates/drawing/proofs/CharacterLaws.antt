@@ -16,13 +16,12 @@ use Rattle.figure.specs.Scratch.{scratchLine, rowsAt, RowsIn, Holds}
 use Rattle.figure.proofs.Folding.{attached-like}
 use Rattle.header.specs.declared.Header.{Header}
 use Rattle.chars.specs.declared.Entry.{Entry}
-use Rattle.font.specs.Font.{Reading, reading}
+use Rattle.font.specs.Font.{says, format, reading}
 use Rattle.font.proofs.ReadingLaws.{font-read}
 use Rattle.reader.specs.declared.Use.{Use}
 use Rattle.reader.specs.declared.Use.the-variants.{Used, Nothing}
 use Rattle.reader.specs.Reader.{entriesOf, used}
 use Rattle.request.proofs.RowLaws.{RowStands, used-stands}
-use Rattle.font.specs.Font.{format}
 use Rattle.lines.specs.Lines.{after}
 use Rattle.drawing.specs.Drawing.{modeOf, characterOf}
 use Rattle.drawing.specs.Held.{FontHeld}
@@ -36,6 +35,9 @@ module _ (s : List ℕ) (h : Header) (count : ℕ) (codes : List ℤ) (starts wi
   -- the font's characters
   pub held-characters : entriesOf (reading s) ≡ held .characters
   held-characters = ap entriesOf (held .said)
+
+  pub held-said : reading s ≡ says h (entriesOf (reading s))
+  held-said = held .said ∙ ap (says h) (sym held-characters)
 
   module _ (c : Code) where
     -- what is used for a code, by the font itself

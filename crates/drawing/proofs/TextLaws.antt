@@ -4,9 +4,8 @@ use mathlib.Core.Path.{_≡_, refl, sym, ap, _∙_, subst}
 use Prim.Native.Nat.{ℕ, _+_, _≤_, _<_}
 use mathlib.Core.List.{List, [], _∷_, map}
 use native.Mathlib.Omega.{arith}
-use native.Mathlib.Nat.{zero-add}
 use native.Mathlib.Numerals.{add-one}
-use lib.IntN.{ℤ, pos}
+use lib.IntN.{pos}
 use lib.ListN.{length, drop, getD, drop-of-length-le}
 use lib.Seq.{drop-cons}
 use Rattle.ground.specs.Limits.{maxLineWidth}
@@ -23,20 +22,9 @@ use Rattle.reader.specs.declared.Use.{Use}
 use Rattle.reader.specs.declared.Use.the-variants.{Used, Nothing}
 use Rattle.reader.specs.Reader.{used}
 use Rattle.flc.specs.declared.Command.{Command}
-use Rattle.flc.specs.Lists.{Holds}
-use Rattle.flc.specs.Mapping.{mapStages, passing, passAll}
-use Rattle.flc.proofs.SoundLaws.{Rising}
-use Rattle.flc.proofs.MappingLaws.{pass-stages}
+use Rattle.flc.specs.Mapping.{mapStages}
 use Rattle.drawing.specs.Drawing.{codesOf, mappedCodes, withUsed, drawnEntries, modeOf, characterOf, joinedInTurn, entriesDrawn, lineOf}
-use Rattle.drawing.specs.Held.{ControlHeld}
 use Rattle.drawing.specs.Steps.{withCharacter, Reached}
-
--- What a byte's code maps to by the lists is what it maps to by the control file.
-pub mapped : (control : List ℕ) (n : ℕ) (stages : List ℕ) (firsts lasts news : List ℤ) (held : ControlHeld control n stages firsts lasts news) (z x : Code) →
-    ((cs : List Command) → Holds cs n stages firsts lasts news → x ≡ passAll cs (passing 0 z) .code) → x ≡ mapStages (held .commands) 0 (held .count) z
-mapped control n stages firsts lasts news held z x f =
-    f (held .commands) (held .holds) ∙
-    pass-stages (held .commands) 0 0 (held .count) z (subst (λ (j : ℕ). Rising j 0 (held .commands)) (sym (zero-add (held .count))) (held .rising))
 
 module _ (s : List ℕ) (h : Header) (es : List Entry) where
   -- the line l with all that is still to be drawn

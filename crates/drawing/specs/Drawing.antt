@@ -1,12 +1,14 @@
 -- Drawing a line of text: document 01, "Join and drawing". "Drawing maps each text byte's code, looks it up, and joins in turn." Five steps, from the
 -- bytes of the text to the bytes that are put out.
 -- Assumes nothing.
+use mathlib.Core.Path.{_≡_}
 use Prim.Native.Nat.{ℕ, _+_}
 use mathlib.Core.Bool.{cond}
 use mathlib.Core.List.{List, [], _∷_, map}
 use lib.Dec.{eqb, ltb}
 use lib.IntN.{pos}
 use lib.ListN.{length, getD}
+use Rattle.ground.specs.Area.{padded}
 use Rattle.ground.specs.Refusals.{refusal, textTooLong}
 use Rattle.ground.specs.declared.refusals.Refusal.{Refusal}
 use Rattle.subchars.specs.declared.Code.{Code}
@@ -112,3 +114,9 @@ answerOf (lined h l) room = answering (outputOf (h .height) l room)
 unfoldable pub bytesOf : Lined → ℕ → List ℕ
 bytesOf (unlined r) room = []
 bytesOf (lined h l) room = outputBytes (h .hardblank .0) (h .height) l room
+
+-- "A refusal fills every lent writable area with zeros. A success fills all room behind its answer with zeros." The answer and the output, of the
+-- given room.
+pub record PutOut (l : Lined) (room : ℕ) (answer : DrawAnswer) (output : List ℕ) : Type 0 where
+  pub answers : answer ≡ answerOf l room
+  pub holds : output ≡ padded (bytesOf l room) room

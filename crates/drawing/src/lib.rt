@@ -21,7 +21,6 @@ ghost use mathlib.Core.List.{List};
 ghost use Prim.Native.Nat.{ℕ, _≤_};
 ghost use lib.IntN.{pos};
 ghost use lib.ListN.{length};
-ghost use Rattle.ground.specs.Area.{padded};
 ghost use Rattle.ground.specs.Limits.{maxCommands};
 ghost use Rattle.lines.specs.Lines.{nextStart};
 ghost use Rattle.chars.specs.Codes.{code};
@@ -29,10 +28,12 @@ ghost use Rattle.font.specs.Font.{reading};
 ghost use Rattle.index.specs.Index.{Room};
 ghost use Rattle.reader.specs.Reader.{entriesOf, used};
 ghost use Rattle.flc.specs.Lists.{Room as CommandRoom};
+ghost use Rattle.flc.specs.Mapping.{ControlHeld};
+ghost use Rattle.join.specs.Join.{Figure};
 ghost use Rattle.join.specs.Writing.{RowAfterRow};
 ghost use Rattle.figure.specs.Scratch.{scratchLine};
-ghost use Rattle.drawing.specs.Drawing.{directionOf, modeOf, lineOf, linedOf, unlined, answerOf, bytesOf};
-ghost use Rattle.drawing.specs.Held.{FontHeld, ControlHeld, FilesHeld};
+ghost use Rattle.drawing.specs.Drawing.{directionOf, modeOf, lineOf, Lined, linedOf, PutOut};
+ghost use Rattle.drawing.specs.Held.{FontHeld, FontTold, filesOf, FilesHeld};
 ghost use Rattle.drawing.specs.Steps.{Standing, RowPlaces, withCharacter, Reached};
 
 // "Text 1,024 bytes."
@@ -190,7 +191,18 @@ fn join_text(
         let byte = code_of(text[i]);
         let code = mapping::map_by(stages, firsts, lasts, news, commands, byte);
         n = draw_code(
-            area, &rows, n, code, font, header, mode, count, codes, starts, widths, places,
+            area,
+            &rows,
+            n,
+            code,
+            font,
+            header,
+            mode,
+            count,
+            codes,
+            starts,
+            widths,
+            places,
         );
         if limits::MAX_LINE_WIDTH < n {
             return n;
@@ -198,4 +210,187 @@ fn join_text(
         i += 1;
     }
     n
+}
+
+// A refusal, with zeros all through the output.
+fn refuse(r: Refusal, out: &mut [u8]) -> DrawAnswer
+    ensures { λ a. ⌜ PutOut (Lined.unlined r) (length (now (out .entry))) a (now (out .exit)) ⌝ }
+{
+    ground::zero_from(out, 0);
+    DrawAnswer::Refused(r)
+}
+
+// Puts out the line w wide that the area holds.
+fn put_out(out: &mut [u8], area: &[u8], header: Header, mode: Mode, w: usize) -> DrawAnswer
+    requires { ⌜ (header .height ≤ 32) × (32000 ≤ length (now area)) ⌝ }
+    requires { ⌜ mode ≡ modeOf header ⌝ }
+    ensures { λ a. ⌜ ((line : Figure) → Reached header w (now (area .entry)) line → PutOut (Lined.lined header line) (length (now (out .entry))) a (now (out .exit))) ⌝ }
+{
+    match figure::put_out(out, area, mode, w, header.height) {
+        Output::Drawn(width) => DrawAnswer::Drawn(width),
+        Output::Refused(number) => DrawAnswer::Refused(Refusal { number, place: 0 }),
+    }
+}
+
+// Draws a text by a font and a control file that were read: 15, 16, then 9 for the output.
+fn draw_text(
+    out: &mut [u8],
+    area: &mut [u8],
+    text: &[u8],
+    font: &[u8],
+    header: Header,
+    count: usize,
+    codes: &[i32],
+    starts: &[usize],
+    widths: &[usize],
+    places: &[usize],
+    commands: usize,
+    stages: &[usize],
+    firsts: &[i32],
+    lasts: &[i32],
+    news: &[i32],
+) -> DrawAnswer
+    requires { ⌜ FontHeld (now font) header count (now codes) (now starts) (now widths) (now places) ⌝ }
+    requires { ⌜ ((control : List ℕ) × ControlHeld control commands (now stages) (now firsts) (now lasts) (now news)) ⌝ }
+    requires { ⌜ 32000 ≤ length (now area) ⌝ }
+    ensures { λ a. ⌜ ((control : List ℕ) → ControlHeld control commands (now (stages .entry)) (now (firsts .entry)) (now (lasts .entry)) (now (news .entry)) → PutOut (linedOf (now (font .entry)) control (now (text .entry))) (length (now (out .entry))) a (now (out .exit))) ⌝ }
+{
+    if MAX_TEXT < text.len() {
+        return refuse(
+            Refusal {
+                number: refusals::TEXT_TOO_LONG,
+                place: 0,
+            },
+            out,
+        );
+    }
+    let mode = mode_of(header);
+    let w = join_text(
+        area,
+        text,
+        font,
+        header,
+        mode,
+        count,
+        codes,
+        starts,
+        widths,
+        places,
+        commands,
+        stages,
+        firsts,
+        lasts,
+        news,
+    );
+    put_out(out, area, header, mode, w)
+}
+
+// Draws a text by what reading the files gave; the lists hold it. Nothing is promised of what the area then holds.
+pub fn draw_line(
+    out: &mut [u8],
+    area: &mut [u8],
+    text: &[u8],
+    font: &[u8],
+    files: Files,
+    codes: &[i32],
+    starts: &[usize],
+    widths: &[usize],
+    places: &[usize],
+    stages: &[usize],
+    firsts: &[i32],
+    lasts: &[i32],
+    news: &[i32],
+) -> DrawAnswer
+    requires { ⌜ ((control : List ℕ) × FilesHeld (now font) control files (now codes) (now starts) (now widths) (now places) (now stages) (now firsts) (now lasts) (now news)) ⌝ }
+    requires { ⌜ 32000 ≤ length (now area) ⌝ }
+    ensures { λ a. ⌜ ((control : List ℕ) → FilesHeld (now (font .entry)) control files (now (codes .entry)) (now (starts .entry)) (now (widths .entry)) (now (places .entry)) (now (stages .entry)) (now (firsts .entry)) (now (lasts .entry)) (now (news .entry)) → PutOut (linedOf (now (font .entry)) control (now (text .entry))) (length (now (out .entry))) a (now (out .exit))) ⌝ }
+{
+    match files {
+        Files::Read {
+            header,
+            count,
+            commands,
+        } => draw_text(
+            out,
+            area,
+            text,
+            font,
+            header,
+            count,
+            codes,
+            starts,
+            widths,
+            places,
+            commands,
+            stages,
+            firsts,
+            lasts,
+            news,
+        ),
+        Files::Refused(r) => refuse(r, out),
+    }
+}
+
+// Reads a font into the lists, with the last place of each code below 256.
+fn read_font(
+    font: &[u8],
+    codes: &mut [i32],
+    starts: &mut [usize],
+    widths: &mut [usize],
+    places: &mut [usize],
+) -> FontStep
+    requires { ⌜ Room (now codes) (now starts) (now widths) ⌝ }
+    requires { ⌜ length (now places) ≡ 256 ⌝ }
+    ensures { λ r. ⌜ FontTold (now (font .entry)) r (now (codes .exit)) (now (starts .exit)) (now (widths .exit)) (now (places .exit)) ⌝ }
+{
+    match reader::read_lists(font, codes, starts, widths) {
+        FontStep::Read { header, count } => {
+            latest::find_latest(&codes[..count], places);
+            FontStep::Read { header, count }
+        }
+        FontStep::Unread(r) => FontStep::Unread(r),
+    }
+}
+
+// Both answers as one; the font's refusal comes first.
+fn files_of(font: FontStep, control: ControlAnswer) -> Files
+    ensures { λ r. ⌜ r ≡ filesOf font control ⌝ }
+{
+    match font {
+        FontStep::Read { header, count } => match control {
+            ControlAnswer::Read {
+                commands,
+                stages: _,
+            } => Files::Read {
+                header,
+                count,
+                commands,
+            },
+            ControlAnswer::Refused(r) => Files::Refused(r),
+        },
+        FontStep::Unread(r) => Files::Refused(r),
+    }
+}
+
+// Reads a font and a control file once, for any number of texts.
+pub fn read_files(
+    font: &[u8],
+    control: &[u8],
+    codes: &mut [i32],
+    starts: &mut [usize],
+    widths: &mut [usize],
+    places: &mut [usize],
+    stages: &mut [usize],
+    firsts: &mut [i32],
+    lasts: &mut [i32],
+    news: &mut [i32],
+) -> Files
+    requires { ⌜ Room (now codes) (now starts) (now widths) ⌝ }
+    requires { ⌜ length (now places) ≡ 256 ⌝ }
+    requires { ⌜ CommandRoom maxCommands (now stages) (now firsts) (now lasts) (now news) ⌝ }
+    ensures { λ r. ⌜ FilesHeld (now (font .entry)) (now (control .entry)) r (now (codes .exit)) (now (starts .exit)) (now (widths .exit)) (now (places .exit)) (now (stages .exit)) (now (firsts .exit)) (now (lasts .exit)) (now (news .exit)) ⌝ }
+{
+    let f = read_font(font, codes, starts, widths, places);
+    let c = flc::read_lists(control, stages, firsts, lasts, news);
+    files_of(f, c)
 }

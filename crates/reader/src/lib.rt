@@ -80,13 +80,7 @@ pub fn read_lists(
 }
 
 // What the lists hold at the place that look-up found.
-fn entry_at(
-    codes: &[i32],
-    starts: &[usize],
-    widths: &[usize],
-    count: usize,
-    found: Found,
-) -> Use
+fn entry_at(codes: &[i32], starts: &[usize], widths: &[usize], count: usize, found: Found) -> Use
     requires { ⌜ Counted count (now codes) (now starts) (now widths) ⌝ }
     requires { ⌜ Within count found ⌝ }
     ensures { λ r. ⌜ ((es : List Entry) → count ≡ length es → Lists es (now (codes .entry)) (now (starts .entry)) (now (widths .entry)) → r ≡ atFound found es) ⌝ }

@@ -8,10 +8,10 @@ use lib.ListN.{length}
 use borrow.Author.Needs.{needs}
 use Rattle.font.specs.Font.{reading}
 use Rattle.reader.specs.Reader.{entriesOf}
-use Rattle.flc.specs.Mapping.{mapStages}
-use Rattle.drawing.specs.Held.{ControlHeld}
+use Rattle.flc.specs.Mapping.{mapStages, ControlHeld}
+use Rattle.flc.proofs.HeldLaws.{usable, mapped}
 use Rattle.drawing.proofs.CharacterLaws.{few-rows}
-use Rattle.drawing.proofs.TextLaws.{mapped, Toward, toward-first, toward-next, toward-beyond, toward-end}
+use Rattle.drawing.proofs.TextLaws.{Toward, toward-first, toward-next, toward-beyond, toward-end}
 use Rattle.drawing.proofs.join_text.Statement.{statement}
 use Rattle.drawing.proofs.join_text.Tie as tie
 
@@ -38,9 +38,7 @@ code-of-requires : tie.Need-code-of-requires Inv-loop μ-loop
 code-of-requires c κs = search needs
 
 map-by-requires : tie.Need-map-by-requires Inv-loop μ-loop
-map-by-requires c κs =
-    let m = c .before .before .before .before .before .before .before .before .before .before .before .before .pre .1 .0 .1 in
-    record { commands = m .commands; holds = m .holds; sound = m .sound }
+map-by-requires c κs = usable _ _ _ _ _ _ (c .before .before .before .before .before .before .before .before .before .before .before .before .pre .1 .0 .1)
 
 slice-aggregate-draw-code : tie.Need-slice-aggregate-draw-code Inv-loop μ-loop
 slice-aggregate-draw-code c = search needs
@@ -77,8 +75,8 @@ loop-again c =
       c .if1 .left,
       omega (arith, c .before .before .before .draw-code .kept .0, l .inv .1),
       λ control held.
-      let is = mapped control (a .commands) (a .stages .now) (a .firsts .now) (a .lasts .now) (a .news .now) held _ _ (c .before .before .before .before .before .before .map-by .ensures) ∙ ap (mapStages (held .commands) 0 (held .count)) (c .before .before .before .before .before .before .before .code-of .ensures) in
-      toward-next s (a .header) (entriesOf (reading s)) (held .commands) (held .count) (a .text .now) (l .area) (l .n) (l .i) (l .inv .2 control held) (c .before .before .before .before .before .before .before .before .before .loop-test .taken) _ is (c .before .before .before .draw-code .last .0) _ (c .before .before .before .draw-code .ensures) (c .if1 .left),
+          let is = mapped control (a .commands) (a .stages .now) (a .firsts .now) (a .lasts .now) (a .news .now) held _ _ (c .before .before .before .before .before .before .map-by .ensures) ∙ ap (mapStages (held .commands) 0 (held .count)) (c .before .before .before .before .before .before .before .code-of .ensures) in
+          toward-next s (a .header) (entriesOf (reading s)) (held .commands) (held .count) (a .text .now) (l .area) (l .n) (l .i) (l .inv .2 control held) (c .before .before .before .before .before .before .before .before .before .loop-test .taken) _ is (c .before .before .before .draw-code .last .0) _ (c .before .before .before .draw-code .ensures) (c .if1 .left),
     )
 
 same-length-2 : tie.Need-same-length-2 Inv-loop μ-loop
