@@ -213,7 +213,7 @@ fn join_text(
 }
 
 // A refusal, with zeros all through the output.
-fn refuse(r: Refusal, out: &mut [u8]) -> DrawAnswer
+pub fn refuse(r: Refusal, out: &mut [u8]) -> DrawAnswer
     ensures { λ a. ⌜ PutOut (Lined.unlined r) (length (now (out .entry))) a (now (out .exit)) ⌝ }
 {
     ground::zero_from(out, 0);
@@ -393,4 +393,33 @@ pub fn read_files(
     let f = read_font(font, codes, starts, widths, places);
     let c = flc::read_lists(control, stages, firsts, lasts, news);
     files_of(f, c)
+}
+
+// Reads both files and draws one text.
+pub fn draw_once(
+    out: &mut [u8],
+    area: &mut [u8],
+    text: &[u8],
+    font: &[u8],
+    control: &[u8],
+) -> DrawAnswer
+    requires { ⌜ 32000 ≤ length (now area) ⌝ }
+    ensures { λ a. ⌜ PutOut (linedOf (now (font .entry)) (now (control .entry)) (now (text .entry))) (length (now (out .entry))) a (now (out .exit)) ⌝ }
+{
+    let mut codes = [0i32; chars::MAX_CHARACTERS];
+    let mut starts = [0usize; chars::MAX_CHARACTERS];
+    let mut widths = [0usize; chars::MAX_CHARACTERS];
+    let mut places = [0usize; 256];
+    let mut stages = [0usize; limits::MAX_COMMANDS];
+    let mut firsts = [0i32; limits::MAX_COMMANDS];
+    let mut lasts = [0i32; limits::MAX_COMMANDS];
+    let mut news = [0i32; limits::MAX_COMMANDS];
+    let files = read_files(
+        font, control, &mut codes, &mut starts, &mut widths, &mut places, &mut stages, &mut firsts,
+        &mut lasts, &mut news,
+    );
+    draw_line(
+        out, area, text, font, files, &codes, &starts, &widths, &places, &stages, &firsts, &lasts,
+        &news,
+    )
 }
