@@ -415,11 +415,30 @@ pub fn draw_once(
     let mut lasts = [0i32; limits::MAX_COMMANDS];
     let mut news = [0i32; limits::MAX_COMMANDS];
     let files = read_files(
-        font, control, &mut codes, &mut starts, &mut widths, &mut places, &mut stages, &mut firsts,
-        &mut lasts, &mut news,
+        font,
+        control,
+        &mut codes,
+        &mut starts,
+        &mut widths,
+        &mut places,
+        &mut stages,
+        &mut firsts,
+        &mut lasts,
+        &mut news,
     );
     draw_line(
-        out, area, text, font, files, &codes, &starts, &widths, &places, &stages, &firsts, &lasts,
+        out,
+        area,
+        text,
+        font,
+        files,
+        &codes,
+        &starts,
+        &widths,
+        &places,
+        &stages,
+        &firsts,
+        &lasts,
         &news,
     )
 }
