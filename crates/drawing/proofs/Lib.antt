@@ -3,3 +3,4 @@ pub mod CharacterLaws
 pub mod TextLaws
 pub mod OutputLaws
 pub mod HeldLaws
+pub mod DrawingLaws

@@ -1,15 +1,15 @@
 -- What drawing comes to, by the size of the scratch.
 -- Assumes nothing.
-use mathlib.Core.Path.{_≡_, sym, ap, _∙_}
+use mathlib.Core.Path.{_≡_, sym, ap, _∙_, subst}
 use mathlib.Core.Bool.{Bool, cond}
 use mathlib.Core.List.{List}
 use Prim.Native.Nat.{ℕ, _-_, _≤_, _<_}
 use native.Mathlib.Omega.{arith}
 use borrow.Author.Tests.{lt-ltb, le-ltb}
-use Rattle.ground.specs.Area.{zeros, padded}
+use Rattle.ground.specs.Area.{zeros}
 use Rattle.ground.specs.Refusals.{refusal, areaTooSmall}
 use Rattle.drawing.specs.declared.DrawAnswer.{DrawAnswer}
-use Rattle.drawing.specs.Drawing.{Lined, unlined, linedOf, answerOf, bytesOf, PutOut}
+use Rattle.drawing.specs.Drawing.{Lined, unlined, linedOf, PutOut}
 use Rattle.wattleslate.specs.DrawCall.{drawTells, minScratch, drawLined, drawTold, drawOutput}
 
 -- Zeros all through an area.
@@ -25,10 +25,10 @@ module _ (size : ℕ) (font control text : List ℕ) where
   unfolding drawLined
   lined-enough u = ap (λ (b : Bool). cond b (unlined (refusal areaTooSmall 0)) (linedOf font control text)) (le-ltb size minScratch u)
 
-  pub put-told : (room : ℕ) (a : DrawAnswer) (out : List ℕ) (l : Lined) → drawLined size font control text ≡ l → PutOut l room a out →
+  pub put-as : (room : ℕ) (a : DrawAnswer) (out : List ℕ) (l : Lined) → drawLined size font control text ≡ l → PutOut l room a out → PutOut (drawLined size font control text) room a out
+  put-as room a out l e p = subst (λ (x : Lined). PutOut x room a out) (sym e) p
+
+  pub put-told : (room : ℕ) (a : DrawAnswer) (out : List ℕ) → PutOut (drawLined size font control text) room a out →
       (drawTells a ≡ drawTold size font control text room) × (out ≡ drawOutput size font control text room)
   unfolding drawTold drawOutput
-  put-told room a out l e p = (
-    ap drawTells (p .answers ∙ ap (λ (x : Lined). answerOf x room) (sym e)),
-    p .holds ∙ ap (λ (x : Lined). padded (bytesOf x room) room) (sym e),
-  )
+  put-told room a out p = (ap drawTells (p .answers), p .holds)

@@ -7,4 +7,5 @@ pub mod RowLaws
 pub mod ControlCases
 pub mod ControlRefusals
 pub mod DrawCases
+pub mod DrawRefusals
 pub mod ToldApart

@@ -1,5 +1,6 @@
 // The public calls. Each is total: it tests its own input, and its `ensures` hold for every input.
 mod controlling;
+mod drawn;
 mod joining;
 
 use chars::Entry;
@@ -200,17 +201,7 @@ pub fn draw(
     ensures output { λ r. ⌜ now (out .exit) ≡ drawOutput (length (now (scratch .entry))) (now (font .entry)) (now (control .entry)) (now (text .entry)) (length (now (out .entry))) ⌝ }
     ensures scratch { λ r. ⌜ now (scratch .exit) ≡ zeros (length (now (scratch .entry))) ⌝ }
 {
-    if scratch.len() < drawing::SCRATCH {
-        ground::zero_from(scratch, 0);
-        return drawing::refuse(
-            Refusal {
-                number: refusals::AREA_TOO_SMALL,
-                place: 0,
-            },
-            out,
-        );
-    }
-    let answer = drawing::draw_once(out, scratch, text, font, control);
+    let answer = drawn::draw_tested(out, scratch, text, font, control);
     ground::zero_from(scratch, 0);
     answer
 }
