@@ -18,6 +18,14 @@ pub(crate) fn load(name: &[u8], buffer: &mut [u8]) -> usize
     n
 }
 
+// The first 64 bytes of a request.
+pub(crate) fn shortened(line: &[u8]) -> &[u8] {
+    if 64 < line.len() {
+        return &line[..64];
+    }
+    line
+}
+
 // The first word of a request.
 pub(crate) fn word_of(line: &[u8]) -> &[u8] {
     let w = words::first_word(line);

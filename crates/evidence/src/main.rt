@@ -1,11 +1,13 @@
 // Answers requests on standard input about the files of its folder: fonts at both sides of every limit, and control files.
 mod asking;
 mod controls;
+mod drawings;
 mod fonts;
 mod printing;
 
 use asking::behind;
 use asking::load;
+use asking::shortened;
 use asking::word_of;
 use libc::STDIN_FILENO;
 use lines::Cursor;
@@ -54,12 +56,22 @@ fn about_control(line: &[u8], control: &[u8]) {
     }
 }
 
+// A request for a drawing; the answer begins with the request, of which 64 bytes are shown.
+fn about_drawing(line: &[u8], font: &[u8]) {
+    if words::starts_with(line, b"draw ") {
+        text(shortened(line));
+        text(b": ");
+        drawings::show_drawing(font, behind(behind(line)));
+    }
+}
+
 // One request: a word, a file's name, and for some a code and a row.
 fn request(line: &[u8]) {
     let mut buffer = [0u8; 65537];
     let n = load(word_of(behind(line)), &mut buffer);
     about_font(line, &buffer[..n]);
     about_control(line, &buffer[..n]);
+    about_drawing(line, &buffer[..n]);
     text(b"\n");
 }
 
