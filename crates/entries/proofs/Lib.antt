@@ -2,6 +2,8 @@
 pub mod Moved
 pub mod FillLaws
 pub mod FindLaws
+pub mod RefusalLaws
+pub mod ToldApart
 pub mod Row
 pub mod Counted
 pub mod Local

@@ -3,6 +3,9 @@ mod controlling;
 mod joining;
 
 use chars::Entry;
+pub use entries::FontAnswer;
+pub use entries::find_in;
+pub use entries::read_font;
 use flc::ControlAnswer;
 use flc::mapping;
 use ground::limits;

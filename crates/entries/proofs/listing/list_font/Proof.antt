@@ -14,7 +14,7 @@ refuse-requires : tie.Need-refuse-requires
 refuse-requires c κs = search needs
 
 returns : tie.Need-returns
-returns c = c .refuse .ensures ∙ ap listedOf (sym (no-room _ _ (c .before .if1 .taken)))
+returns c = c .refuse .ensures ∙ ap listedOf (sym (no-room _ _ (omega arith)))
 
 slice-aggregate-read-lists : tie.Need-slice-aggregate-read-lists
 slice-aggregate-read-lists c = search needs
@@ -44,7 +44,7 @@ list-entries-requires : tie.Need-list-entries-requires
 list-entries-requires c κs =
     let s = c .before .before .before .before .before .before .before .before .before .before .before .before .before .before .before .args .font .now in
     let few = read-few (reading s) _ _ _ _ (c .before .before .before .before .before .before .before .before .before .read-lists .ensures) _ _ (c .before .before .before .before .header .given .1) in
-    (record { in-codes = omega arith; in-starts = omega arith; in-widths = omega arith }, few)
+    (record { in-codes = omega arith; in-starts = omega arith; in-widths = omega arith }, omega arith)
 
 enum-known-r : tie.Need-enum-known-r
 enum-known-r c = search needs
@@ -56,12 +56,12 @@ returns-2 : tie.Need-returns-2
 returns-2 c =
     let s = c .before .before .before .before .before .before .before .before .before .before .before .before .before .before .before .before .args .font .now in
     read-listed (reading s) _ _ _ _ (c .before .before .before .before .before .before .before .before .before .before .read-lists .ensures) _ _ _ (c .before .before .before .before .before .header .given .1) (c .list-entries .ensures) ∙
-    ap listedOf (sym (has-room s _ (c .before .before .before .before .before .before .before .before .before .before .before .before .before .before .if1 .left)))
+    ap listedOf (sym (has-room s _ (omega arith)))
 
 returns-3 : tie.Need-returns-3
 returns-3 c =
     let s = c .before .before .before .before .before .before .before .before .before .before .before .before .before .args .font .now in
-    c .refuse2 .ensures ∙ sym (ap listedOf (has-room s _ (c .before .before .before .before .before .before .before .before .before .before .before .if1 .left) ∙ unread-refuses (reading s) _ (sym (c .before .before .r .given .1) ∙ c .before .before .before .before .before .before .before .read-lists .ensures .answer)))
+    c .refuse2 .ensures ∙ sym (ap listedOf (has-room s _ (omega arith) ∙ unread-refuses (reading s) _ (sym (c .before .before .r .given .1) ∙ c .before .before .before .before .before .before .before .read-lists .ensures .answer)))
 
 pub list-font-spec : {M : Type 1} → statement M
 list-font-spec =
