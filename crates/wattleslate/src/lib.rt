@@ -3,6 +3,7 @@ mod controlling;
 mod joining;
 
 use chars::Entry;
+// Reading a font into a lent index, and look-up in it.
 pub use entries::FontAnswer;
 pub use entries::find_in;
 pub use entries::read_font;
