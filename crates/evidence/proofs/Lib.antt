@@ -1,2 +1,3 @@
 -- The laws of what the evidence programs share.
 pub mod Signs
+pub mod Cut

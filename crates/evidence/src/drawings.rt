@@ -11,6 +11,7 @@ ghost use Prim.Native.Nat.{_≤_};
 
 // The arrays of which a scratch and an output are lent.
 const MOST_SCRATCH: usize = 32001;
+
 const MOST_ROOM: usize = 1100;
 
 // A byte of an output as it is printed: LF as `|`, and zero as `.`.
@@ -103,11 +104,5 @@ pub(crate) fn show_drawing(font: &[u8], words: &[u8]) {
     let third = behind(second);
     let size = ground::smaller(row_of(word_of(second)), MOST_SCRATCH);
     let room = ground::smaller(row_of(word_of(third)), MOST_ROOM);
-    draw(
-        font,
-        &buffer[..n],
-        past_blank(behind(third)),
-        size,
-        room,
-    );
+    draw(font, &buffer[..n], past_blank(behind(third)), size, room);
 }

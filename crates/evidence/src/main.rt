@@ -3,6 +3,7 @@ mod asking;
 mod controls;
 mod drawings;
 mod fonts;
+mod indexes;
 mod printing;
 
 use asking::behind;
@@ -15,7 +16,7 @@ use lines::LineStep;
 use lines::words;
 use printing::text;
 
-// Requests about a font; the answer begins with the font's name.
+// Requests about a font; the answer begins with the font's name, or with the request.
 fn about_font(line: &[u8], font: &[u8]) {
     let arguments = behind(line);
     if words::starts_with(line, b"read ") {
@@ -34,6 +35,11 @@ fn about_font(line: &[u8], font: &[u8]) {
             word_of(behind(arguments)),
             word_of(behind(behind(arguments))),
         );
+    }
+    if words::starts_with(line, b"index ") {
+        text(line);
+        text(b": ");
+        indexes::show_index(font, behind(arguments));
     }
 }
 

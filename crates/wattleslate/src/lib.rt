@@ -4,7 +4,11 @@ mod drawn;
 mod joining;
 
 use chars::Entry;
-use drawing::DrawAnswer;
+pub use drawing::DrawAnswer;
+// Reading a font into a lent index, and look-up in it.
+pub use entries::FontAnswer;
+pub use entries::find_in;
+pub use entries::read_font;
 use flc::ControlAnswer;
 use flc::mapping;
 use ground::limits;

@@ -1,0 +1,22 @@
+-- What an answer tells is all of it: two answers of a call that tell the same are the same.
+-- Assumes nothing.
+use mathlib.Core.Path.{_≡_, refl, ap, ap₂}
+use mathlib.Core.Bool.{true≢false, false≢true}
+use Rattle.reader.specs.declared.Use.{Use}
+use Rattle.reader.specs.declared.Use.the-variants.{Used, Nothing}
+use Rattle.entries.specs.declared.FontAnswer.{FontAnswer}
+use Rattle.entries.specs.declared.FontAnswer.the-variants.{Read, Refused}
+use Rattle.entries.specs.Filling.{told, FontTold, fontTells}
+use Rattle.entries.specs.Finding.{EntryTold, entryTells}
+
+pub font-apart : (r s : FontAnswer) → fontTells r ≡ fontTells s → r ≡ s
+font-apart (Read h n) (Read g m) e = let p : told h ≡ told g = ap (λ (t : FontTold). t .header) e in ap₂ Read (cc) (ap (λ (t : FontTold). t .count) e)
+font-apart (Read h n) (Refused s) e = absurd (false≢true (ap (λ (t : FontTold). t .refused) e))
+font-apart (Refused r) (Read g m) e = absurd (true≢false (ap (λ (t : FontTold). t .refused) e))
+font-apart (Refused r) (Refused s) e = ap (λ (t : FontTold). Refused (record { number = t .number; place = t .place })) e
+
+pub entry-apart : (r s : Use) → entryTells r ≡ entryTells s → r ≡ s
+entry-apart (Used d) (Used f) e = ap (λ (t : EntryTold). Used (record { code = record { 0 = t .code }; start = t .start; width = t .width })) e
+entry-apart (Used d) Nothing e = absurd (true≢false (ap (λ (t : EntryTold). t .found) e))
+entry-apart Nothing (Used d) e = absurd (false≢true (ap (λ (t : EntryTold). t .found) e))
+entry-apart Nothing Nothing e = refl

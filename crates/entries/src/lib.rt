@@ -1,0 +1,51 @@
+// The lent index as a slice of entries: the one function that fills it, and the one that reads it. They only move whole entries; what is moved
+// is decided below them.
+mod listing;
+mod seen;
+
+use chars::Entry;
+use ground::refusals::Refusal;
+use header::Header;
+use reader::Use;
+use subchars::Code;
+ghost use mathlib.Core.Path.{_≡_};
+ghost use lib.ListN.{length};
+ghost use Rattle.entries.specs.Filling.{fontReading, indexOf, fontTells, fontTold};
+ghost use Rattle.entries.specs.Finding.{entryTells, findTold};
+
+// What reading a font answers: its header, with the layout, and how many characters it has; or a refusal.
+pub enum FontAnswer {
+    Read { header: Header, count: usize },
+    Refused(Refusal),
+}
+
+// Reads a font into an index of 512 entries or more: its characters in file order, with zeros behind. A refusal (9, then 1 to 8) leaves the
+// index all zeros.
+pub fn read_font(font: &[u8], index: &mut [Entry]) -> FontAnswer
+    ensures answer { λ r. ⌜ fontTells r ≡ fontTold (fontReading (length (now (index .entry))) (now (font .entry))) ⌝ }
+    ensures index { λ r. ⌜ now (index .exit) ≡ indexOf (fontReading (length (now (index .entry))) (now (font .entry))) (length (now (index .entry))) ⌝ }
+{
+    let listed = listing::list_font(font, index.len());
+    let entries = listed.entries;
+    let mut i: usize = 0;
+    while i < index.len() {
+        index[i] = entries[ground::smaller(i, listing::LAST)];
+        i += 1;
+    }
+    listed.answer
+}
+
+// The entry that is used for a code, of the first `count` entries of a list: the last that has it, or else the last with code 0. A count beyond
+// the list's end is its length.
+pub fn find_in(index: &[Entry], count: usize, code: Code) -> Use
+    ensures answer { λ r. ⌜ entryTells r ≡ findTold (now (index .entry)) count code ⌝ }
+{
+    let n = ground::smaller(count, index.len());
+    let mut used = Use::Nothing;
+    let mut i: usize = 0;
+    while i < n {
+        used = seen::better(used, index[i], code);
+        i += 1;
+    }
+    used
+}

@@ -1,0 +1,86 @@
+// A font's characters as an array of entries, with zeros behind them.
+use crate::FontAnswer;
+use chars::Entry;
+use ground::refusals;
+use ground::refusals::Refusal;
+use reader::FontStep;
+use subchars::Code;
+ghost use mathlib.Core.Path.{_≡_};
+ghost use mathlib.Core.List.{List};
+ghost use Prim.Native.Nat.{_≤_};
+ghost use lib.ListN.{length};
+ghost use Rattle.chars.specs.declared.Entry.{Entry};
+ghost use Rattle.chars.specs.Chars.{maxCharacters};
+ghost use Rattle.font.specs.Font.{refuses};
+ghost use Rattle.reader.specs.Reader.{Lists, Counted};
+ghost use Rattle.entries.specs.Filling.{fontReading, withZeros};
+ghost use Rattle.entries.specs.Steps.{listedOf};
+
+// The last place of the array. No font has a character there: its zeros stand for all that lie behind.
+pub const LAST: usize = chars::MAX_CHARACTERS;
+
+const ZEROS: [Entry; LAST + 1] = [Entry {
+    code: Code(0),
+    start: 0,
+    width: 0,
+}; LAST + 1];
+
+// What reading a font answers, and its characters.
+pub struct Listed {
+    pub answer: FontAnswer,
+    pub entries: [Entry; LAST + 1],
+}
+
+// The entries that the lists begin with.
+fn list_entries(
+    codes: &[i32],
+    starts: &[usize],
+    widths: &[usize],
+    count: usize,
+) -> [Entry; LAST + 1]
+    requires { ⌜ Counted count (now codes) (now starts) (now widths) × count ≤ maxCharacters ⌝ }
+    ensures { λ r. ⌜ ((es : List Entry) → count ≡ length es → Lists es (now (codes .entry)) (now (starts .entry)) (now (widths .entry)) → r ≡ withZeros es 513) ⌝ }
+{
+    let mut entries = ZEROS;
+    let mut i: usize = 0;
+    while i < count {
+        entries[i] = Entry {
+            code: Code(codes[i]),
+            start: starts[i],
+            width: widths[i],
+        };
+        i += 1;
+    }
+    entries
+}
+
+fn refuse(r: Refusal) -> Listed
+    ensures { λ l. ⌜ l ≡ listedOf (refuses r) ⌝ }
+{
+    Listed {
+        answer: FontAnswer::Refused(r),
+        entries: ZEROS,
+    }
+}
+
+// Reads a font into an index of so many entries: 9, and then what the font says.
+pub fn list_font(font: &[u8], room: usize) -> Listed
+    ensures { λ l. ⌜ l ≡ listedOf (fontReading room (now (font .entry))) ⌝ }
+{
+    if room < chars::MAX_CHARACTERS {
+        return refuse(Refusal {
+            number: refusals::AREA_TOO_SMALL,
+            place: 0,
+        });
+    }
+    let mut codes = [0i32; chars::MAX_CHARACTERS];
+    let mut starts = [0usize; chars::MAX_CHARACTERS];
+    let mut widths = [0usize; chars::MAX_CHARACTERS];
+    match reader::read_lists(font, &mut codes, &mut starts, &mut widths) {
+        FontStep::Read { header, count } => Listed {
+            answer: FontAnswer::Read { header, count },
+            entries: list_entries(&codes, &starts, &widths, count),
+        },
+        FontStep::Unread(r) => refuse(r),
+    }
+}

@@ -1,0 +1,98 @@
+// What is printed about a lent index: a font is read into it, a code is looked up in it, and one of its entries is shown.
+use crate::asking::behind;
+use crate::asking::code_of;
+use crate::asking::row_of;
+use crate::asking::word_of;
+use crate::printing::named;
+use crate::printing::number;
+use crate::printing::refused;
+use crate::printing::signed;
+use crate::printing::text;
+use chars::Entry;
+use reader::Use;
+use subchars::Code;
+use wattleslate::FontAnswer;
+ghost use Prim.Native.Nat.{_<_, _≤_};
+
+// How many entries the array has that is lent, whole or a part of it.
+const MOST: usize = 600;
+
+// What the two calls answer, and the entry that was asked for.
+struct Asked {
+    answer: FontAnswer,
+    used: Use,
+    entry: Entry,
+}
+
+// Entries that hold something before a font is read into them.
+fn nines() -> [Entry; MOST] {
+    [Entry {
+        code: Code(9),
+        start: 9,
+        width: 9,
+    }; MOST]
+}
+
+// Reads a font into an index of some size, and looks a code up among so many of its entries; then the array's entry at a place.
+fn ask(font: &[u8], size: usize, count: usize, code: Code, place: usize) -> Asked
+    requires { ⌜ (size ≤ 600) × (place < 600) ⌝ }
+{
+    let mut entries = nines();
+    let answer = wattleslate::read_font(font, &mut entries[..size]);
+    let used = wattleslate::find_in(&entries[..size], count, code);
+    let entry = entries[place];
+    Asked {
+        answer,
+        used,
+        entry,
+    }
+}
+
+fn show(e: Entry) {
+    let code = e.code;
+    text(b"code ");
+    signed(code.0);
+    named(b", start ", e.start);
+    named(b", width ", e.width);
+}
+
+fn show_used(used: Use) {
+    match used {
+        Use::Used(e) => show(e),
+        Use::Nothing => text(b"none"),
+    }
+}
+
+fn show_answer(answer: FontAnswer) {
+    match answer {
+        FontAnswer::Read { header: _, count } => {
+            number(count);
+            text(b" characters");
+        }
+        FontAnswer::Refused(r) => refused(r.number, r.place),
+    }
+}
+
+// The words are a size, a count, a code and a place: the answer of reading the font, the entry used for the code, and the entry at the place.
+pub(crate) fn show_index(font: &[u8], words: &[u8]) {
+    let size = ground::smaller(row_of(word_of(words)), MOST);
+    let second = behind(words);
+    let third = behind(second);
+    let place = ground::smaller(row_of(word_of(behind(third))), MOST - 1);
+    let a = ask(
+        font,
+        size,
+        row_of(word_of(second)),
+        code_of(word_of(third)),
+        place,
+    );
+    let answer = a.answer;
+    let used = a.used;
+    let entry = a.entry;
+    show_answer(answer);
+    text(b"; used ");
+    show_used(used);
+    named(b"; at ", place);
+    text(b": ");
+    show(entry);
+}
