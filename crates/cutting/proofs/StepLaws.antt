@@ -13,6 +13,7 @@ use Rattle.ground.specs.Text.{byte}
 use Rattle.ground.specs.Runs.{run}
 use Rattle.cutting.specs.Cut.{isLF, notLF}
 use Rattle.cutting.specs.Parts.{mostKept, clipped, ended, begun, Steps}
+use Rattle.cutting.specs.declared.Step.{Step}
 use Rattle.cutting.specs.declared.Step.the-variants.{Ended, Begun}
 use Rattle.cutting.proofs.PartLaws.{clipped-length, clipped-all, clipped-front}
 
@@ -89,3 +90,10 @@ pub keep-done : (l s : List ℕ) (n i end : ℕ) → n ≤ mostKept → n ≤ le
 keep-done l s n i end h u e =
     let z : end - i ≡ 0 = omega arith in
     rw (z, append-nil) (clipped-all (take n l) (omega (arith, length-take-le n l u)))
+
+-- What a caller reads off an answer.
+pub step-ends : (p part line : List ℕ) (r : Step) (m next : ℕ) → r ≡ Ended m next → Steps p part line r → (m ≤ mostKept) × (0 < next) × (next ≤ length part)
+step-ends p part line r m next e s = let t : Steps p part line (Ended m next) = rw e at s in (t .0, t .1, t .2)
+
+pub step-begins : (p part line : List ℕ) (r : Step) (m : ℕ) → r ≡ Begun m → Steps p part line r → m ≤ mostKept
+step-begins p part line r m e s = let t : Steps p part line (Begun m) = rw e at s in t .0
