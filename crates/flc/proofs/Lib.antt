@@ -6,4 +6,5 @@ pub mod ListLaws
 pub mod PassLaws
 pub mod SoundLaws
 pub mod MappingLaws
+pub mod HeldLaws
 pub mod RefusalLaws

@@ -15,8 +15,7 @@ use borrow.Author.Tests.{eq-eqb, ne-eqb, le-leb, lt-leb}
 use Rattle.subchars.specs.declared.Code.{Code}
 use Rattle.flc.specs.declared.Command.{Command}
 use Rattle.flc.specs.declared.mapping.Passing.{Passing}
-use Rattle.flc.specs.Mapping.{fits, newCode, throughStage, ofStage, mapStages, passing, passCommand, passAll, AllSound, none, more}
-use Rattle.flc.proofs.SoundLaws.{Rising, at-end, rises}
+use Rattle.flc.specs.Mapping.{fits, newCode, throughStage, ofStage, mapStages, passing, passCommand, passAll, AllSound, none, more, Rising, at-end, rises}
 
 -- No command of a list fits a code.
 pub data NoneFits (z : Code) : List Command → Type 0 where

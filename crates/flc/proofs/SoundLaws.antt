@@ -20,7 +20,7 @@ use Rattle.flc.specs.declared.LineAct.{LineAct}
 use Rattle.flc.specs.declared.LineAct.the-variants.{Lists, Passes, Refuses}
 use Rattle.flc.specs.Control.{actOf, Reading, reads, refuses, withCommand, thenLines, stageAfter, countAfter, commandsOn, signature, behindSignature, control}
 use Rattle.flc.proofs.ActLaws.{Mapped, listed-is, passed-is}
-use Rattle.flc.specs.Mapping.{fits, moved, Sound, AllSound, none, more}
+use Rattle.flc.specs.Mapping.{fits, moved, Sound, AllSound, none, more, Rising, at-end, rises}
 
 -- Lines of bytes.
 data AllBytes : List TextLine → Type 0 where
@@ -66,11 +66,6 @@ sound-of t b stage h n c m =
       staged = h;
       within = λ z e. line-within (m .first) (m .last) (m .new) t b (sym (m .kind-is)) (z .0) (and-left (leZ (m .first .0) (z .0)) (leZ (z .0) (m .last .0)) e) (and-right (leZ (m .first .0) (z .0)) (leZ (z .0) (m .last .0)) e);
     })
-
--- Stages that rise from one on, and stay below a count.
-pub data Rising (stages : ℕ) : ℕ → List Command → Type 0 where
-  at-end : {k : ℕ} → k < stages → Rising stages k []
-  rises : {k : ℕ} {c : Command} {cs : List Command} → k ≤ c .stage → Rising stages (c .stage) cs → Rising stages k (c ∷ cs)
 
 rising-lower : {stages k : ℕ} (cs : List Command) (j : ℕ) → j ≤ k → Rising stages k cs → Rising stages j cs
 rising-lower [] j h (at-end l) = at-end {k = j} (omega arith)

@@ -1,7 +1,7 @@
 -- What a code maps to by a control file: document 01, "Control files".
 -- Assumes nothing.
 use mathlib.Core.Path.{_≡_}
-use Prim.Native.Nat.{ℕ, zero, suc, _+_, _<_}
+use Prim.Native.Nat.{ℕ, zero, suc, _+_, _<_, _≤_}
 use mathlib.Core.Bool.{Bool, true, cond, _&&_}
 use mathlib.Core.List.{List, [], _∷_}
 use lib.Dec.{eqb, leb}
@@ -13,6 +13,9 @@ use Rattle.ground.specs.Limits.{maxStages}
 use Rattle.subchars.specs.declared.Code.{Code}
 use Rattle.flc.specs.declared.Command.{Command}
 use Rattle.flc.specs.declared.mapping.Passing.{Passing}
+use Rattle.flc.specs.declared.ControlAnswer.{ControlAnswer}
+use Rattle.flc.specs.declared.ControlAnswer.the-variants.{Read, Refused}
+use Rattle.flc.specs.Control.{reads, refuses, control}
 use Rattle.flc.specs.Lists.{Holds}
 
 -- A code fits a command that maps it.
@@ -64,8 +67,27 @@ pub data AllSound : List Command → Type 0 where
   none : AllSound []
   more : {c : Command} {cs : List Command} → Sound c → AllSound cs → AllSound (c ∷ cs)
 
+-- Stages that rise from one on, and stay below a count.
+pub data Rising (stages : ℕ) : ℕ → List Command → Type 0 where
+  at-end : {k : ℕ} → k < stages → Rising stages k []
+  rises : {k : ℕ} {c : Command} {cs : List Command} → k ≤ c .stage → Rising stages (c .stage) cs → Rising stages k (c ∷ cs)
+
 -- Lists that begin with n sound commands.
 pub record Usable (n : ℕ) (stages : List ℕ) (firsts lasts news : List ℤ) : Type 0 where
   pub commands : List Command
   pub holds : Holds commands n stages firsts lasts news
   pub sound : AllSound commands
+
+-- A control file was read: the lists begin with its n commands.
+pub record ControlHeld (s : List ℕ) (n : ℕ) (stages : List ℕ) (firsts lasts news : List ℤ) : Type 0 where
+  pub commands : List Command
+  pub count : ℕ
+  pub said : control s ≡ reads commands count
+  pub holds : Holds commands n stages firsts lasts news
+  pub sound : AllSound commands
+  pub rising : Rising count 0 commands
+
+-- What reading it answered, and the lists.
+abbrev pub ControlTold : List ℕ → ControlAnswer → List ℕ → List ℤ → List ℤ → List ℤ → Type 0
+ControlTold s (Read n k) stages firsts lasts news = ControlHeld s n stages firsts lasts news
+ControlTold s (Refused r) stages firsts lasts news = control s ≡ refuses r

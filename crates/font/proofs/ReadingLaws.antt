@@ -17,7 +17,8 @@ use Rattle.header.specs.declared.Header.{Header}
 use Rattle.header.specs.declared.HeaderStep.{HeaderStep}
 use Rattle.header.specs.declared.HeaderStep.the-variants.{Good, Refused}
 use Rattle.header.specs.Header.{readHeader}
-use Rattle.header.proofs.RefusalLaws.{header-refusal}
+use Rattle.header.proofs.ParameterLaws.{High}
+use Rattle.header.proofs.RefusalLaws.{header-refusal, header-high}
 use Rattle.chars.specs.declared.Entry.{Entry}
 use Rattle.chars.specs.Codes.{requiredCodes}
 use Rattle.chars.specs.Chars.{maxCharacters, Ending, finished, stopped, Listing, listing}
@@ -141,6 +142,8 @@ module _ (s : List ℕ) where
 
   -- A font that is read.
   pub record FontRead (h : Header) (es : List Entry) : Type 0 where
+    pub short : length s ≤ maxFontLength
+    pub high : High (h .height)
     pub few : length es ≤ maxCharacters
     pub rows : EachStands (format h) (linesFrom s 0) es
 
@@ -170,14 +173,29 @@ module _ (s : List ℕ) where
       go (Refused r) q = clash (cc)
       go (Good g) q = said g (leb (g .«comment_lines») (length ls)) q
 
+  lines-high : (size : ℕ) (ls : List TextLine) (h : Header) (es : List Entry) → onLines size ls ≡ says h es → High (h .height)
+  lines-high size [] h es e = clash (cc)
+  lines-high size (l ∷ ls) h es e = go (readHeader (l .text)) refl e
+    where
+      said : (g : Header) → readHeader (l .text) ≡ Good g → (b : Bool) → cond b (withCharacters g (listing (format g) size requiredCodes 0 (drop (g .«comment_lines») ls))) (refuses (refusal missingLine size)) ≡ says h es → High (h .height)
+      said g p true q =
+          let x = listing (format g) size requiredCodes 0 (drop (g .«comment_lines») ls) in
+          subst (λ (y : Header). High (y .height)) (ended-read g (x .ending) (x .entries) h es q .0) (header-high (l .text) g p)
+      said g p false q = clash (cc)
+
+      go : (x : HeaderStep) → readHeader (l .text) ≡ x → afterHeader x size ls ≡ says h es → High (h .height)
+      go (Refused r) p q = clash (cc)
+      go (Good g) p q = said g p (leb (g .«comment_lines») (length ls)) q
+
   pub font-read : (h : Header) (es : List Entry) → reading s ≡ says h es → FontRead h es
   font-read h es e = go (ltb maxFontLength (length s)) refl
     where
       go : (b : Bool) → ltb maxFontLength (length s) ≡ b → FontRead h es
       go true k = let y : refuses (refusal fontTooLong 0) ≡ says h es = sym (long-is (ltb-true maxFontLength (length s) k)) ∙ e in clash (cc)
       go false k =
-          let r = lines-read (length s) (linesFrom s 0) h es (sym (short-is (ltb-false maxFontLength (length s) k)) ∙ e) in
-          record { few = r .0; rows = r .1 }
+          let q = sym (short-is (ltb-false maxFontLength (length s) k)) ∙ e in
+          let r = lines-read (length s) (linesFrom s 0) h es q in
+          record { short = ltb-false maxFontLength (length s) k; high = lines-high (length s) (linesFrom s 0) h es q; few = r .0; rows = r .1 }
 
   lines-ordered : (size : ℕ) (ls : List TextLine) (h : Header) (es : List Entry) → onLines size ls ≡ says h es → InOrder (format h) (drop (suc (h .«comment_lines»)) ls) es
   lines-ordered size [] h es e = clash (cc)

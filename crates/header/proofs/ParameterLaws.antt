@@ -5,11 +5,12 @@ use mathlib.Core.Bool.{Bool, true, _&&_, false≢true}
 use mathlib.Core.List.{List, [], _∷_}
 use Prim.Native.Nat.{ℕ, zero, suc, _≤_, _<_}
 use native.Mathlib.Omega.{arith}
-use lib.Dec.{T}
-use lib.IntN.{ℤ, pos, negsuc}
+use lib.Dec.{T, leb}
+use lib.IntN.{ℤ, pos, negsuc, natAbs}
 use lib.ListN.{length, take, getD, length-take}
 use lib.Seq.{getD-take}
 use lib.Signed.{nonNeg}
+use borrow.Author.Tests.{leb-true}
 use Rattle.ground.proofs.Tests.{and-left, and-right}
 use Rattle.lines.specs.Numbers.{highest}
 use Rattle.header.specs.declared.Parameter.{Parameter}
@@ -128,12 +129,20 @@ pub record Sizes (p : Parameters) : Type 0 where
   pub layout : T (notNegative (p .«full_layout»))
   pub tags : T (notNegative (p .«codetag_count»))
 
-pub sizes : (p : Parameters) → legal p ≡ true → Sizes p
-unfolding legal
-sizes p e =
-    let s = every (within (pos 1) (pos maxHeight) (p .height)) (within (pos 1) (p .height) (p .baseline)) (within (pos 1) longestLine (p .«max_length»))
+-- The ranges of legal parameters, one after the other.
+ranges : (p : Parameters) → legal p ≡ true →
+    Every (within (pos 1) (pos maxHeight) (p .height)) (within (pos 1) (p .height) (p .baseline)) (within (pos 1) longestLine (p .«max_length»))
     (within minOldLayout maxOldLayout (p .«old_layout»)) (within (pos 0) mostComments (p .«comment_lines»)) (allowed lastDirection (p .«print_direction»))
-    (allowed maxFullLayout (p .«full_layout»)) (allowed highest (p .«codetag_count»)) e in
+    (allowed maxFullLayout (p .«full_layout»)) (allowed highest (p .«codetag_count»))
+unfolding legal
+ranges p e =
+    every (within (pos 1) (pos maxHeight) (p .height)) (within (pos 1) (p .height) (p .baseline)) (within (pos 1) longestLine (p .«max_length»))
+    (within minOldLayout maxOldLayout (p .«old_layout»)) (within (pos 0) mostComments (p .«comment_lines»)) (allowed lastDirection (p .«print_direction»))
+    (allowed maxFullLayout (p .«full_layout»)) (allowed highest (p .«codetag_count»)) e
+
+pub sizes : (p : Parameters) → legal p ≡ true → Sizes p
+sizes p e =
+    let s = ranges p e in
     record {
       height = not-negative 1 (pos maxHeight) (p .height) (s .t0);
       baseline = not-negative 1 (p .height) (p .baseline) (s .t1);
@@ -143,6 +152,18 @@ sizes p e =
       layout = if-given maxFullLayout (p .«full_layout») (s .t6);
       tags = if-given highest (p .«codetag_count») (s .t7);
     }
+
+-- "Height 1 to 32."
+abbrev pub High : ℕ → Type 0
+High n = (1 ≤ n) × (n ≤ maxHeight)
+
+pub high : (p : Parameters) → legal p ≡ true → High (natAbs (p .height))
+unfolding within
+high p e = by (p .height) (ranges p e .t0)
+  where
+    by : (z : ℤ) → within (pos 1) (pos maxHeight) z ≡ true → High (natAbs z)
+    by (pos n) t = (leb-true 1 n (and-left (leb 1 n) (leb n maxHeight) t), leb-true n maxHeight (and-right (leb 1 n) (leb n maxHeight) t))
+    by (negsuc n) t = absurd (false≢true t)
 
 -- Equal arguments, as the calls of the code have them.
 pub and-eq : (r a b a′ b′ : Bool) → r ≡ (a && b) → a ≡ a′ → b ≡ b′ → r ≡ (a′ && b′)

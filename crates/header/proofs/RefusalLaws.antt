@@ -1,6 +1,6 @@
 -- Each refusal of a header is given exactly when document 01's table says so: both directions, for every line.
 -- Assumes nothing.
-use mathlib.Core.Path.{_≡_, refl, sym, ap, _∙_}
+use mathlib.Core.Path.{_≡_, refl, sym, ap, _∙_, subst}
 use mathlib.Core.Bool.{Bool, true, false, cond}
 use mathlib.Core.Logic.{_↔_}
 use mathlib.Core.List.{List, [], _∷_}
@@ -22,7 +22,7 @@ use Rattle.header.specs.declared.HeaderStep.{HeaderStep}
 use Rattle.header.specs.declared.HeaderStep.the-variants.{Good, Refused}
 use Rattle.subchars.specs.Pair.{isHardblank}
 use Rattle.header.specs.Header.{parameterNumbers, parameters, legal, header, refused, headerWith, headerOf, afterHardblank, afterSignature, signature, readHeader}
-use Rattle.header.proofs.ParameterLaws.{too-few}
+use Rattle.header.proofs.ParameterLaws.{too-few, High, high}
 
 -- 3: "hardblank absent, or blank, CR, LF, NUL", of what follows flf2a.
 pub data BadHardblank : List ℕ → Type 0 where
@@ -47,7 +47,7 @@ placeOf (Refused r) = r .place
 
 -- What an answer to what follows the hardblank is for.
 data After (rest : List ℕ) (r : HeaderStep) : Type 0 where
-  fine : (x : Header) → r ≡ Good x → After rest r
+  fine : (x : Header) → r ≡ Good x → High (x .height) → After rest r
   bad : BadParameters rest → r ≡ refused badParameters → After rest r
 
 few-numbers : (zs : List ℤ) → parameters zs ≡ TooFew → length zs < 5
@@ -60,12 +60,12 @@ few-numbers (a ∷ b ∷ c ∷ d ∷ []) e = omega arith
 few-numbers (a ∷ b ∷ c ∷ d ∷ f ∷ zs) e = clash (cc)
 
 after-is : (h : SubCharacter) (rest : List ℕ) → After rest (afterHardblank h rest)
-unfolding afterHardblank headerOf
+unfolding afterHardblank headerOf header
 after-is h [] = bad no-more refl
 after-is h (x ∷ rest) = at-blank (isBlank x) refl
   where
     in-range : (p : Parameters) → isBlank x ≡ true → parameters (parameterNumbers rest) ≡ All p → (l : Bool) → legal p ≡ l → After (x ∷ rest) (cond l (Good (header h p)) (refused badParameters))
-    in-range p e q true l = fine (header h p) refl
+    in-range p e q true l = fine (header h p) refl (high p l)
     in-range p e q false l = bad (out-of-range p e q l) refl
 
     named : isBlank x ≡ true → (s : ParameterStep) → parameters (parameterNumbers rest) ≡ s → After (x ∷ rest) (headerWith h s)
@@ -124,7 +124,7 @@ module _ (t : List ℕ) where
   signed-not-2 : (u : List ℕ) (r : HeaderStep) → Signed u r → r ≡ refused noSignature → ⊥
   unfolding numberOf
   signed-not-2 u r (unblank b e) q = differ _ _ (sym e ∙ q) λ n. omega arith
-  signed-not-2 u r (blank h rest e b (fine x g)) q = differ _ _ (sym g ∙ q) λ n. omega arith
+  signed-not-2 u r (blank h rest e b (fine x g t)) q = differ _ _ (sym g ∙ q) λ n. omega arith
   signed-not-2 u r (blank h rest e b (bad p g)) q = differ _ _ (sym g ∙ q) λ n. omega arith
 
   -- 2: "first line does not begin with flf2a"
@@ -138,7 +138,7 @@ module _ (t : List ℕ) where
   signed-3 : (u : List ℕ) (r : HeaderStep) → Signed u r → r ≡ refused badHardblank → BadHardblank u
   unfolding numberOf
   signed-3 u r (unblank b e) q = b
-  signed-3 u r (blank h rest e b (fine x g)) q = differ _ _ (sym g ∙ q) λ n. omega arith
+  signed-3 u r (blank h rest e b (fine x g t)) q = differ _ _ (sym g ∙ q) λ n. omega arith
   signed-3 u r (blank h rest e b (bad p g)) q = differ _ _ (sym g ∙ q) λ n. omega arith
 
   -- 3, where the line begins with flf2a
@@ -157,7 +157,7 @@ module _ (t : List ℕ) where
   signed-4 : (u : List ℕ) (r : HeaderStep) → Signed u r → r ≡ refused badParameters → Followed u
   unfolding numberOf
   signed-4 u r (unblank b e) q = differ _ _ (sym e ∙ q) λ n. omega arith
-  signed-4 u r (blank h rest e b (fine x g)) q = differ _ _ (sym g ∙ q) λ n. omega arith
+  signed-4 u r (blank h rest e b (fine x g t)) q = differ _ _ (sym g ∙ q) λ n. omega arith
   signed-4 u r (blank h rest e b (bad p g)) q = (h, rest, e, b, p)
 
   -- 4, where the line begins with flf2a and a hardblank
@@ -187,7 +187,7 @@ module _ (t : List ℕ) where
 
   signed-numbers : (u : List ℕ) (x : HeaderStep) (r : Refusal) → Signed u x → x ≡ Refused r → HeaderRefusal r
   signed-numbers u x r (unblank b e) q = known badHardblank r (omega arith) (omega arith) (sym e ∙ q)
-  signed-numbers u x r (blank h rest e b (fine y g)) q = clash (cc)
+  signed-numbers u x r (blank h rest e b (fine y g t)) q = clash (cc)
   signed-numbers u x r (blank h rest e b (bad p g)) q = known badParameters r (omega arith) (omega arith) (sym g ∙ q)
 
   pub header-refusal : (r : Refusal) → readHeader t ≡ Refused r → HeaderRefusal r
@@ -196,3 +196,16 @@ module _ (t : List ℕ) where
       go : (b : Bool) → begins signature t ≡ b → HeaderRefusal r
       go true e = signed-numbers (drop 5 t) (afterSignature (drop 5 t)) r (signed-is (drop 5 t)) (sym (with-signature e) ∙ q)
       go false e = known noSignature r (omega arith) (omega arith) (sym (without-signature e) ∙ q)
+
+  -- a header that is read has 1 to 32 rows
+  signed-high : (u : List ℕ) (x : HeaderStep) (y : Header) → Signed u x → x ≡ Good y → High (y .height)
+  signed-high u x y (unblank b e) q = clash (cc)
+  signed-high u x y (blank h rest e b (fine z g t)) q = let p : z ≡ y = cc in subst (λ (v : Header). High (v .height)) p t
+  signed-high u x y (blank h rest e b (bad p g)) q = clash (cc)
+
+  pub header-high : (y : Header) → readHeader t ≡ Good y → High (y .height)
+  header-high y q = go (begins signature t) refl
+    where
+      go : (b : Bool) → begins signature t ≡ b → High (y .height)
+      go true e = signed-high (drop 5 t) (afterSignature (drop 5 t)) y (signed-is (drop 5 t)) (sym (with-signature e) ∙ q)
+      go false e = let r = sym (without-signature e) ∙ q in clash (cc)

@@ -6,7 +6,9 @@ use Prim.Native.Nat.{ℕ, zero, suc, _+_, _-_, _*_, _≤_, _<_}
 use native.Mathlib.Omega.{arith}
 use native.Mathlib.Numerals.{add-one}
 use native.Mathlib.Nat.{zero-mul, suc-mul, mul-le-mul-right}
-use lib.ListN.{length, take, getD, length-append}
+use native.Mathlib.Decide.{decLt}
+use lib.ListN.{length, take, getD, set, length-append}
+use lib.Seq.{getD-set-same, getD-set-other}
 use Rattle.ground.specs.Area.{values}
 use Rattle.ground.proofs.Areas.{length-values, values-add, values-cong}
 use Rattle.subchars.specs.declared.Mode.{Mode}
@@ -67,3 +69,11 @@ row-parts y o left right n m r u v =
     (λ k l. let i : r * m + (cut + (o + k) - cut) ≡ r * m + o + k = omega arith in
     cell-right y o a b r (cut + (o + k)) (omega arith) (omega arith) ∙ ap (λ (s : ℕ). getD right s 0) i) in
     sym (ap (values f) e ∙ (values-add f cut (o + rest) ∙ ap₂ _++_ x (values-add (λ k. f (cut + k)) o rest ∙ ap₂ _++_ p q)))
+
+-- One value more in a list that begins with the first r values of f.
+pub set-next : (f : ℕ → ℕ) (l : List ℕ) (r x : ℕ) → r < length l → x ≡ f r → ((i : ℕ) → i < r → getD l i 0 ≡ f i) → (i : ℕ) → i < r + 1 → getD (set l r x) i 0 ≡ f i
+set-next f l r x h e before i u =
+    elim (decLt i r) [
+      | yes p ↦ getD-set-other l r i x 0 (λ q. omega arith) ∙ before i p
+      | no q ↦ let z : i ≡ r = omega arith in ap (λ (k : ℕ). getD (set l r x) k 0) z ∙ (getD-set-same l r x 0 h ∙ (e ∙ ap f (sym z)))
+    ]

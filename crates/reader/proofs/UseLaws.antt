@@ -3,11 +3,11 @@
 use mathlib.Core.Path.{_≡_, refl, sym, ap, _∙_}
 use mathlib.Core.List.{List, [], _∷_, map}
 use mathlib.Core.Logic.{_↔_}
-use Prim.Native.Nat.{ℕ, zero, suc, _<_}
+use Prim.Native.Nat.{ℕ, zero, suc, _≤_, _<_}
 use native.Mathlib.Omega.{arith}
 use lib.IntN.{ℤ, pos}
 use lib.ListN.{length, take, getD}
-use lib.Seq.{getD-take}
+use lib.Seq.{getD-take, length-take-le}
 use Rattle.ground.proofs.Tests.{clash}
 use Rattle.subchars.specs.declared.Code.{Code}
 use Rattle.chars.specs.declared.Entry.{Entry}
@@ -19,7 +19,7 @@ use Rattle.index.specs.Index.{codeOf, startOf, widthOf}
 use Rattle.index.specs.LookUp.{lastAt, orElse, lookUp}
 use Rattle.index.proofs.FindLaws.{at-last}
 use Rattle.reader.specs.declared.Use.the-variants.{Used, Nothing}
-use Rattle.reader.specs.Reader.{Lists, entryAt, atFound, used}
+use Rattle.reader.specs.Reader.{Lists, Within, entryAt, atFound, used}
 
 -- Look-up finds a place of the list.
 pub found-inside : (c : Code) (l : List ℤ) (k : ℕ) → At k ≡ lookUp c l → k < length l
@@ -44,24 +44,29 @@ length-map : {A : Type 0} (g : Entry → A) (es : List Entry) → length (map g 
 length-map g [] = refl
 length-map g (e ∷ es) = ap suc (length-map g es)
 
-module _ (c : Code) (codes : List ℤ) (starts widths : List ℕ) (n : ℕ) where
-  pub use-found : (k : ℕ) → At k ≡ lookUp c (take n codes) → (es : List Entry) → n ≡ length es → Lists es codes starts widths →
-      Used (entry (code (getD codes k (pos 0))) (getD starts k 0) (getD widths k 0)) ≡ used c es
-  unfolding used
-  use-found k p es m l =
-      let q : At k ≡ lookUp c (map codeOf es) = p ∙ ap (lookUp c) (ap (λ (j : ℕ). take j codes) m ∙ l .codes-are) in
-      let h : k < length es = omega (arith, found-inside c (map codeOf es) k q, length-map codeOf es) in
-      sym (
-      sym (ap (λ (f : Found). atFound f es) q) ∙
-      entry-parts es k h ∙
-      ap (λ (z : ℤ). Used (entry (code z) (getD (map startOf es) k 0) (getD (map widthOf es) k 0))) (part-is codeOf es codes k (pos 0) h (l .codes-are)) ∙
-      ap (λ (j : ℕ). Used (entry (code (getD codes k (pos 0))) j (getD (map widthOf es) k 0))) (part-is startOf es starts k 0 h (l .starts-are)) ∙
-      ap (λ (j : ℕ). Used (entry (code (getD codes k (pos 0))) (getD starts k 0) j)) (part-is widthOf es widths k 0 h (l .widths-are))
-      )
+-- the entry at a place is what the lists hold there
+pub parts-at : (codes : List ℤ) (starts widths : List ℕ) (es : List Entry) → Lists es codes starts widths → (k : ℕ) → k < length es →
+    Used (entry (code (getD codes k (pos 0))) (getD starts k 0) (getD widths k 0)) ≡ entryAt es k
+parts-at codes starts widths es l k h =
+    sym (
+    entry-parts es k h ∙
+    ap (λ (z : ℤ). Used (entry (code z) (getD (map startOf es) k 0) (getD (map widthOf es) k 0))) (part-is codeOf es codes k (pos 0) h (l .codes-are)) ∙
+    ap (λ (j : ℕ). Used (entry (code (getD codes k (pos 0))) j (getD (map widthOf es) k 0))) (part-is startOf es starts k 0 h (l .starts-are)) ∙
+    ap (λ (j : ℕ). Used (entry (code (getD codes k (pos 0))) (getD starts k 0) j)) (part-is widthOf es widths k 0 h (l .widths-are))
+    )
 
-  pub use-none : Nowhere ≡ lookUp c (take n codes) → (es : List Entry) → n ≡ length es → Lists es codes starts widths → Nothing ≡ used c es
+-- What look-up finds among the first n codes.
+module _ (c : Code) (codes : List ℤ) (n : ℕ) (f : Found) (found : f ≡ lookUp c (take n codes)) where
+  pub found-within : n ≤ length codes → Within n f
+  found-within h = go f found
+    where
+      go : (x : Found) → x ≡ lookUp c (take n codes) → Within n x
+      go (At k) e = omega (arith, found-inside c (take n codes) k e, length-take-le n codes h)
+      go Nowhere e = tt
+
+  pub found-used : (starts widths : List ℕ) (es : List Entry) → n ≡ length es → Lists es codes starts widths → atFound f es ≡ used c es
   unfolding used
-  use-none p es m l = ap (λ (f : Found). atFound f es) (p ∙ ap (lookUp c) (ap (λ (j : ℕ). take j codes) m ∙ l .codes-are))
+  found-used starts widths es m l = ap (λ (x : Found). atFound x es) (found ∙ ap (lookUp c) (ap (λ (j : ℕ). take j codes) m ∙ l .codes-are))
 
 -- The character that is used is one of the font's.
 pub used-at : (c : Code) (es : List Entry) (e : Entry) → used c es ≡ Used e → (k : ℕ) × (entryAt es k ≡ Used e)

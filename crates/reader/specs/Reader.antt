@@ -2,7 +2,7 @@
 -- Assumes nothing.
 use mathlib.Core.Path.{_≡_}
 use mathlib.Core.List.{List, [], _∷_, map}
-use Prim.Native.Nat.{ℕ, zero, suc, _≤_}
+use Prim.Native.Nat.{ℕ, zero, suc, _≤_, _<_}
 use lib.IntN.{ℤ}
 use lib.ListN.{length, take}
 use Rattle.subchars.specs.declared.Code.{Code}
@@ -50,6 +50,11 @@ pub record Counted (n : ℕ) (codes : List ℤ) (starts widths : List ℕ) : Typ
   pub in-codes : n ≤ length codes
   pub in-starts : n ≤ length starts
   pub in-widths : n ≤ length widths
+
+-- A place that was found is one of the first n.
+abbrev pub Within : ℕ → Found → Type 0
+Within n (At k) = k < n
+Within n Nowhere = Unit
 
 -- The entry at a place of a list.
 unfoldable pub entryAt : List Entry → ℕ → Use

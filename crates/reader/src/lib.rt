@@ -5,15 +5,17 @@ use ground::refusals::Refusal;
 use header::Header;
 use index::Filling;
 use index::Found;
+use index::latest;
 use rows::Format;
 use subchars::Code;
 ghost use mathlib.Core.Path.{_≡_};
 ghost use mathlib.Core.List.{List};
-ghost use lib.ListN.{length};
+ghost use lib.ListN.{length, take};
 ghost use Rattle.chars.specs.declared.Entry.{Entry};
 ghost use Rattle.index.specs.Index.{Room};
+ghost use Rattle.index.specs.Latest.{Latest};
 ghost use Rattle.font.specs.Font.{format, reading};
-ghost use Rattle.reader.specs.Reader.{Lists, ReadInto, Behind, Counted, used};
+ghost use Rattle.reader.specs.Reader.{Lists, ReadInto, Behind, Counted, Within, atFound, used};
 
 // The header of a font and how many characters it has, or its refusal.
 pub enum FontStep {
@@ -77,6 +79,22 @@ pub fn read_lists(
     }
 }
 
+// What the lists hold at the place that look-up found.
+fn entry_at(codes: &[i32], starts: &[usize], widths: &[usize], count: usize, found: Found) -> Use
+    requires { ⌜ Counted count (now codes) (now starts) (now widths) ⌝ }
+    requires { ⌜ Within count found ⌝ }
+    ensures { λ r. ⌜ ((es : List Entry) → count ≡ length es → Lists es (now (codes .entry)) (now (starts .entry)) (now (widths .entry)) → r ≡ atFound found es) ⌝ }
+{
+    match found {
+        Found::At(k) => Use::Used(Entry {
+            code: Code(codes[k]),
+            start: starts[k],
+            width: widths[k],
+        }),
+        Found::Nowhere => Use::Nothing,
+    }
+}
+
 // The character that is used for a code, of those that the lists begin with.
 pub fn find_entry(
     codes: &[i32],
@@ -88,12 +106,23 @@ pub fn find_entry(
     requires { ⌜ Counted count (now codes) (now starts) (now widths) ⌝ }
     ensures { λ r. ⌜ ((es : List Entry) → count ≡ length es → Lists es (now (codes .entry)) (now (starts .entry)) (now (widths .entry)) → r ≡ used code es) ⌝ }
 {
-    match index::look_up(&codes[..count], code) {
-        Found::At(k) => Use::Used(Entry {
-            code: Code(codes[k]),
-            start: starts[k],
-            width: widths[k],
-        }),
-        Found::Nowhere => Use::Nothing,
-    }
+    let found = index::look_up(&codes[..count], code);
+    entry_at(codes, starts, widths, count, found)
+}
+
+// The same, where the last places of the codes below 256 are at hand.
+pub fn find_known(
+    codes: &[i32],
+    starts: &[usize],
+    widths: &[usize],
+    count: usize,
+    places: &[usize],
+    code: Code,
+) -> Use
+    requires { ⌜ Counted count (now codes) (now starts) (now widths) ⌝ }
+    requires { ⌜ Latest (take count (now codes)) (now places) ⌝ }
+    ensures { λ r. ⌜ ((es : List Entry) → count ≡ length es → Lists es (now (codes .entry)) (now (starts .entry)) (now (widths .entry)) → r ≡ used code es) ⌝ }
+{
+    let found = latest::look_up(&codes[..count], places, code);
+    entry_at(codes, starts, widths, count, found)
 }

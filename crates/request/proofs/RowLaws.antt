@@ -33,6 +33,7 @@ use Rattle.request.proofs.PlaceLaws.{after-add}
 pub record RowStands (f : Format) (s : List ℕ) (w at : ℕ) : Type 0 where
   pub inside : at < length s
   pub width : rowOf f (textAt s at) ≡ Width w
+  pub ends : at + w ≤ lineEnd s at
   pub fits : at + w ≤ length s
   pub bytes : take w (drop at s) ≡ row (textAt s at)
 
@@ -55,6 +56,7 @@ on-line f s w at h e =
     record {
       inside = h;
       width = e;
+      ends = omega (arith, b);
       fits = omega (arith, b, k);
       bytes = sym (take-take w n (drop at s) b) ∙ ap (λ (j : ℕ). take j (textAt s at)) v ∙ row-prefix (textAt s at);
     }

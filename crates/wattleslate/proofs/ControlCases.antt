@@ -3,8 +3,7 @@
 use mathlib.Core.Path.{_≡_, sym, ap, _∙_, subst}
 use mathlib.Core.Bool.{true, false, _&&_}
 use mathlib.Core.List.{List}
-use Prim.Native.Nat.{ℕ, _+_}
-use native.Mathlib.Nat.{zero-add}
+use Prim.Native.Nat.{ℕ}
 use lib.Dec.{leb}
 use lib.IntN.{ℤ}
 use lib.ListN.{length}
@@ -19,11 +18,9 @@ use Rattle.flc.specs.declared.Command.{Command}
 use Rattle.flc.specs.declared.ControlAnswer.{ControlAnswer}
 use Rattle.flc.specs.declared.ControlAnswer.the-variants.{Read, Refused}
 use Rattle.flc.specs.Control.{Reading, refuses, control}
-use Rattle.flc.specs.Lists.{commandsOf, stageList, firstList, lastList, newList, Room, Holds, Listed}
-use Rattle.flc.specs.Mapping.{passing, passAll, Usable}
-use Rattle.flc.proofs.ListLaws.{ReadAs, read-as, refused-as, listed-holds}
-use Rattle.flc.proofs.SoundLaws.{Rising, control-sound, control-rising}
-use Rattle.flc.proofs.MappingLaws.{pass-stages}
+use Rattle.flc.specs.Lists.{stageList, firstList, lastList, newList, Room, Holds, Listed}
+use Rattle.flc.specs.Mapping.{passing, passAll, Usable, ControlHeld, ControlTold}
+use Rattle.flc.proofs.HeldLaws.{told, mapped, usable as held-usable}
 use Rattle.wattleslate.specs.declared.MapAnswer.the-variants as Map
 use Rattle.wattleslate.specs.ControlCall.{controlTells, hasRoom, controlReading, controlTold}
 use Rattle.wattleslate.specs.MapCall.{mapTells, mappedBy, mapTold}
@@ -67,25 +64,21 @@ module _ (x y : Reading) (a : ControlAnswer) (ss : List ℕ) (fs ls ns : List �
 
 -- A code, by a file that was read into lists.
 module _ (s : List ℕ) (b : Bytes s) (r : ControlAnswer) (ss : List ℕ) (fs ls ns : List ℤ) (rs rf rl rn : ℕ) (l : Listed (control s) r ss fs ls ns rs rf rl rn) where
-  module _ (n k : ℕ) (e : r ≡ Read n k) where
-    as-read : ReadAs (control s) n k
-    as-read = read-as (control s) n k (sym e ∙ l .answer)
+  told-as : (a : ControlAnswer) → r ≡ a → ControlTold s a ss fs ls ns
+  told-as a e = subst (λ (x : ControlAnswer). ControlTold s x ss fs ls ns) e (told s b r ss fs ls ns rs rf rl rn l)
 
-    held : Holds (as-read .commands) n ss fs ls ns
-    held =
-        subst (λ (j : ℕ). Holds (as-read .commands) j ss fs ls ns) (sym (as-read .count))
-        (subst (λ (x : Reading). Holds (commandsOf x) (length (commandsOf x)) ss fs ls ns) (as-read .is) (listed-holds (control s) r ss fs ls ns rs rf rl rn l))
+  module _ (n k : ℕ) (e : r ≡ Read n k) where
+    held : ControlHeld s n ss fs ls ns
+    held = told-as (Read n k) e
 
     pub usable : Usable n ss fs ls ns
-    usable = record { commands = as-read .commands; holds = held; sound = control-sound s b (as-read .commands) k (sym (as-read .is)) }
+    usable = held-usable s n ss fs ls ns held
 
     pub mapped-told : (z y : Code) → ((cs : List Command) → Holds cs n ss fs ls ns → y ≡ passAll cs (passing 0 z) .code) → mapTells (Map.Mapped y) ≡ mapTold s z
     unfolding mapTold
     mapped-told z y f =
-        let cs = as-read .commands in
-        let up : Rising (0 + k) 0 cs = subst (λ (j : ℕ). Rising j 0 cs) (sym (zero-add k)) (control-rising s b cs k (sym (as-read .is))) in
-        ap (λ (x : Code). mapTells (Map.Mapped x)) (f cs held ∙ pass-stages cs 0 0 k z up) ∙ sym (ap (λ (x : Reading). mapTells (mappedBy x z)) (as-read .is))
+        ap (λ (x : Code). mapTells (Map.Mapped x)) (mapped s n ss fs ls ns held z y f) ∙ sym (ap (λ (x : Reading). mapTells (mappedBy x z)) (held .said))
 
   pub refused-told : (q : Refusal) → r ≡ Refused q → (z : Code) → mapTells (Map.Refused q) ≡ mapTold s z
   unfolding mapTold
-  refused-told q e z = sym (ap (λ (x : Reading). mapTells (mappedBy x z)) (refused-as (control s) q (sym e ∙ l .answer)))
+  refused-told q e z = sym (ap (λ (x : Reading). mapTells (mappedBy x z)) (told-as (Refused q) e))

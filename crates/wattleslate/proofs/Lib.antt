@@ -6,4 +6,5 @@ pub mod LookUpLaws
 pub mod RowLaws
 pub mod ControlCases
 pub mod ControlRefusals
+pub mod DrawCases
 pub mod ToldApart

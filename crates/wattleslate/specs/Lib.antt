@@ -4,3 +4,4 @@ pub mod LookUpCall
 pub mod RowCall
 pub mod ControlCall
 pub mod MapCall
+pub mod DrawCall

@@ -3,6 +3,7 @@ mod controlling;
 mod joining;
 
 use chars::Entry;
+use drawing::DrawAnswer;
 use flc::ControlAnswer;
 use flc::mapping;
 use ground::limits;
@@ -17,12 +18,14 @@ use subchars::Mode;
 use subchars::SubCharacter;
 ghost use mathlib.Core.Path.{_≡_};
 ghost use lib.ListN.{length};
+ghost use Rattle.ground.specs.Area.{zeros};
 ghost use Rattle.flc.specs.Lists.{stageList, firstList, lastList, newList};
 ghost use Rattle.wattleslate.specs.JoinCall.{joinTells, joinTold, joinArea};
 ghost use Rattle.wattleslate.specs.LookUpCall.{lookUpTells, lookUpTold};
 ghost use Rattle.wattleslate.specs.RowCall.{rowTells, rowTold, rowBytes};
 ghost use Rattle.wattleslate.specs.ControlCall.{controlTells, controlReading, controlTold};
 ghost use Rattle.wattleslate.specs.MapCall.{mapTells, mapTold};
+ghost use Rattle.wattleslate.specs.DrawCall.{drawTells, drawTold, drawOutput};
 
 // What a look-up answers: the entry used, with its own code, start and width; that there is none; or the font's refusal.
 pub enum LookUpAnswer {
@@ -181,4 +184,33 @@ pub fn join(
             out,
         ),
     }
+}
+
+// Draws a line of text by a font and a control file, and writes it to `out`: each row with hardblanks as blanks, then LF, with zeros behind. The
+// answer gives the width. `scratch` has 32,000 bytes or more, and is all zeros afterwards. Refusals: 9 for the scratch, the font's (1 to 8), the
+// control file's (10 to 14), 15, 16, then 9 for `out`; they leave `out` all zeros.
+pub fn draw(
+    font: &[u8],
+    control: &[u8],
+    text: &[u8],
+    scratch: &mut [u8],
+    out: &mut [u8],
+) -> DrawAnswer
+    ensures answer { λ r. ⌜ drawTells r ≡ drawTold (length (now (scratch .entry))) (now (font .entry)) (now (control .entry)) (now (text .entry)) (length (now (out .entry))) ⌝ }
+    ensures output { λ r. ⌜ now (out .exit) ≡ drawOutput (length (now (scratch .entry))) (now (font .entry)) (now (control .entry)) (now (text .entry)) (length (now (out .entry))) ⌝ }
+    ensures scratch { λ r. ⌜ now (scratch .exit) ≡ zeros (length (now (scratch .entry))) ⌝ }
+{
+    if scratch.len() < drawing::SCRATCH {
+        ground::zero_from(scratch, 0);
+        return drawing::refuse(
+            Refusal {
+                number: refusals::AREA_TOO_SMALL,
+                place: 0,
+            },
+            out,
+        );
+    }
+    let answer = drawing::draw_once(out, scratch, text, font, control);
+    ground::zero_from(scratch, 0);
+    answer
 }
