@@ -37,10 +37,11 @@ fn print_part(
     loop {
         match cutting::next_line(line, n, &part[at..]) {
             Step::Ended { held: m, next } => {
+                let text = &line[..m];
                 print_line(
                     out,
                     area,
-                    &line[..m],
+                    text,
                     font,
                     files,
                     codes,
@@ -83,10 +84,11 @@ fn print_last(
     requires { ⌜ (held ≤ length (now line)) × (32000 ≤ length (now area)) ⌝ }
 {
     if 0 < held {
+        let text = &line[..held];
         print_line(
             out,
             area,
-            &line[..held],
+            text,
             font,
             files,
             codes,
@@ -101,8 +103,8 @@ fn print_last(
     }
 }
 
-// Prints each line of standard input, by areas lent for its parts, its lines and their drawing. Nothing says that an input ends, so the reads
-// are counted down from a number that no run uses up.
+// Prints each line of standard input that ends, by areas lent for its parts, its lines and their drawing. Answers how many bytes are kept of a line
+// begun at the end. Nothing says that an input ends, so the reads are counted down from a number that no run uses up.
 fn print_reads(
     part: &mut [u8],
     line: &mut [u8],
@@ -118,36 +120,22 @@ fn print_reads(
     firsts: &[i32],
     lasts: &[i32],
     news: &[i32],
-)
+) -> usize
     requires { ⌜ ((control : List ℕ) × FilesHeld (now font) control files (now codes) (now starts) (now widths) (now places) (now stages) (now firsts) (now lasts) (now news)) ⌝ }
     requires { ⌜ (mostKept ≤ length (now line)) × (32000 ≤ length (now area)) ⌝ }
+    ensures { λ r. ⌜ r ≤ mostKept ⌝ }
 {
     let mut held: usize = 0;
     let mut turns = u64::MAX;
     while turns > 0 {
-        let got = libc::read(STDIN_FILENO, part);
-        let n = io::count(got, part);
+        let count = libc::read(STDIN_FILENO, part);
+        let n = io::count(count, part);
         if n == 0 {
-            print_last(
-                line,
-                held,
-                out,
-                area,
-                font,
-                files,
-                codes,
-                starts,
-                widths,
-                places,
-                stages,
-                firsts,
-                lasts,
-                news,
-            );
-            return;
+            return held;
         }
+        let got = &part[..n];
         held = print_part(
-            &part[..n],
+            got,
             line,
             held,
             out,
@@ -165,6 +153,7 @@ fn print_reads(
         );
         turns -= 1;
     }
+    held
 }
 
 // Prints each line of standard input.
@@ -186,9 +175,25 @@ pub(crate) fn print_input(
     let mut line = [0u8; 1025];
     let mut out = [0u8; 2048];
     let mut area = [0u8; 32000];
-    print_reads(
+    let held = print_reads(
         &mut part,
         &mut line,
+        &mut out,
+        &mut area,
+        font,
+        files,
+        codes,
+        starts,
+        widths,
+        places,
+        stages,
+        firsts,
+        lasts,
+        news,
+    );
+    print_last(
+        &line,
+        held,
         &mut out,
         &mut area,
         font,

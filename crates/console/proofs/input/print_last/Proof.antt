@@ -6,8 +6,8 @@ use borrow.Author.Needs.{needs}
 use Rattle.console.proofs.input.print_last.Tie as tie
 use Rattle.console.proofs.input.print_last.Statement.{statement}
 
-slice-aggregate-print-line : tie.Need-slice-aggregate-print-line
-slice-aggregate-print-line c = sym (length-take-le _ _ (c .before .before .before .before .before .before .before .before .before .before .before .before .pre .1 .0))
+slice-aggregate-text : tie.Need-slice-aggregate-text
+slice-aggregate-text c = sym (length-take-le _ _ (c .before .before .before .before .before .before .before .before .before .before .pre .1 .0))
 
 print-line-requires : tie.Need-print-line-requires
 print-line-requires c κs = search needs
@@ -28,7 +28,7 @@ pub print-last-spec : {M : Type 1} → statement M
 print-last-spec =
     tie.close
     (tie.spec
-    slice-aggregate-print-line
+    slice-aggregate-text
     print-line-requires
     same-length
     same-length-2

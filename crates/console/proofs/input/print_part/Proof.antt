@@ -1,4 +1,4 @@
--- `console::input::print_part` is safe and ends: each line brings the place nearer to the end of the part.
+-- `console::input::print_part` meets its contract and ends: each line brings the place nearer to the end of the part.
 -- Assumes nothing.
 use mathlib.Core.Path.{_≡_, sym, ap}
 use Prim.Native.Nat.{_≤_, _<_, _-_}
@@ -50,15 +50,15 @@ next-line-requires c κs = search needs
 enum-known-m : tie.Need-enum-known-m Inv-loop μ-loop
 enum-known-m c = search needs
 
-slice-reshare-prefix-print-line : tie.Need-slice-reshare-prefix-print-line Inv-loop μ-loop
-slice-reshare-prefix-print-line c =
-    let k = c .before .before .before .before .before .before .before in
-    omega (arith, found (c .before .before) .0, k .next-line .kept .0, k .before .before .before .loop .inv .2, k .before .before .before .before .before .before .before .before .before .before .before .before .before .pre .1 .1)
+slice-reshare-prefix-text : tie.Need-slice-reshare-prefix-text Inv-loop μ-loop
+slice-reshare-prefix-text c =
+    let k = c .before .before .before .before .before in
+    omega (arith, found c .0, k .next-line .kept .0, k .before .before .before .loop .inv .2, k .before .before .before .before .before .before .before .before .before .before .before .before .before .pre .1 .1)
 
-slice-aggregate-print-line : tie.Need-slice-aggregate-print-line Inv-loop μ-loop
-slice-aggregate-print-line c =
-    let k = c .before .before .before .before .before .before .before .before in
-    sym (length-take-le _ _ (omega (arith, found (c .before .before .before) .0, k .next-line .kept .0, k .before .before .before .loop .inv .2, k .before .before .before .before .before .before .before .before .before .before .before .before .before .pre .1 .1)))
+slice-aggregate-text : tie.Need-slice-aggregate-text Inv-loop μ-loop
+slice-aggregate-text c =
+    let k = c .before .before .before .before .before .before in
+    sym (length-take-le _ _ (omega (arith, found (c .before) .0, k .next-line .kept .0, k .before .before .before .loop .inv .2, k .before .before .before .before .before .before .before .before .before .before .before .before .before .pre .1 .1)))
 
 print-line-requires : tie.Need-print-line-requires Inv-loop μ-loop
 print-line-requires c κs = search needs
@@ -99,8 +99,8 @@ print-part-spec =
     part-next-line-end
     next-line-requires
     enum-known-m
-    slice-reshare-prefix-print-line
-    slice-aggregate-print-line
+    slice-reshare-prefix-text
+    slice-aggregate-text
     print-line-requires
     add-at
     loop-less

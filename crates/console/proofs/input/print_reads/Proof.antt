@@ -1,4 +1,4 @@
--- `console::input::print_reads` is safe and ends. The invariant: the lent areas keep their lengths, and no more than 1,025 bytes are held. The measure is the number of turns that are left.
+-- `console::input::print_reads` meets its contract and ends. The invariant: the lent areas keep their lengths, and no more than 1,025 bytes are held. The measure is the number of turns that are left.
 -- Assumes nothing.
 use mathlib.Core.Path.{_≡_}
 use Prim.Native.Nat.{_≤_}
@@ -26,9 +26,6 @@ read-requires c κs = search needs
 count-requires : tie.Need-count-requires Inv-loop μ-loop
 count-requires c κs = search needs
 
-print-last-requires : tie.Need-print-last-requires Inv-loop μ-loop
-print-last-requires c κs = (c .before .before .before .before .before .before .before .before .before .before .before .before .before .before .before .before .before .before .before .before .before .pre .0, (omega (arith, c .before .before .before .before .before .before .before .before .before .before .before .loop .inv .0, c .before .before .before .before .before .before .before .before .before .before .before .loop .inv .2, c .before .before .before .before .before .before .before .before .before .before .before .before .before .before .before .before .before .before .before .before .before .pre .1 .0), omega (arith, c .before .before .before .before .before .before .before .before .before .before .before .loop .inv .4, c .before .before .before .before .before .before .before .before .before .before .before .before .before .before .before .before .before .before .before .before .before .pre .1 .1)))
-
 same-length : tie.Need-same-length Inv-loop μ-loop
 same-length c = search needs
 
@@ -44,11 +41,11 @@ same-length-4 c = search needs
 returns : tie.Need-returns Inv-loop μ-loop
 returns c = search needs
 
-slice-reshare-prefix-print-part : tie.Need-slice-reshare-prefix-print-part Inv-loop μ-loop
-slice-reshare-prefix-print-part c = search needs
+slice-reshare-prefix-got : tie.Need-slice-reshare-prefix-got Inv-loop μ-loop
+slice-reshare-prefix-got c = search needs
 
-slice-aggregate-print-part : tie.Need-slice-aggregate-print-part Inv-loop μ-loop
-slice-aggregate-print-part c = search needs
+slice-aggregate-got : tie.Need-slice-aggregate-got Inv-loop μ-loop
+slice-aggregate-got c = search needs
 
 print-part-requires : tie.Need-print-part-requires Inv-loop μ-loop
 print-part-requires c κs = (c .before .before .before .before .before .before .before .before .before .before .before .before .before .before .before .before .before .before .before .before .before .before .pre .0, (c .before .before .before .before .before .before .before .before .before .before .before .before .loop .inv .0, omega (arith, c .before .before .before .before .before .before .before .before .before .before .before .before .loop .inv .2, c .before .before .before .before .before .before .before .before .before .before .before .before .before .before .before .before .before .before .before .before .before .before .pre .1 .0), omega (arith, c .before .before .before .before .before .before .before .before .before .before .before .before .loop .inv .4, c .before .before .before .before .before .before .before .before .before .before .before .before .before .before .before .before .before .before .before .before .before .before .pre .1 .1)))
@@ -86,14 +83,13 @@ print-reads-spec =
     loop-holds
     read-requires
     count-requires
-    print-last-requires
     same-length
     same-length-2
     same-length-3
     same-length-4
     returns
-    slice-reshare-prefix-print-part
-    slice-aggregate-print-part
+    slice-reshare-prefix-got
+    slice-aggregate-got
     print-part-requires
     sub-turns
     loop-less
