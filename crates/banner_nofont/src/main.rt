@@ -1,0 +1,4 @@
+// The program banner where there is no font.
+fn main() {
+    console::run();
+}

@@ -1,0 +1,4 @@
+// The program banner on the example font with Old_Layout 1.
+fn main() {
+    console::run();
+}

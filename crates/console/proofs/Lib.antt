@@ -1,0 +1,2 @@
+-- The laws that printing cites.
+pub mod RowLaws

@@ -1,0 +1,2 @@
+-- What a program that draws prints of a line.
+pub mod Rows

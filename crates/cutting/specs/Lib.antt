@@ -1,0 +1,3 @@
+-- The lines of a program's input, and the same cut from parts, one after another.
+pub mod Cut
+pub mod Parts
