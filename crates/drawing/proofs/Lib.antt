@@ -1,4 +1,5 @@
 -- The laws of drawing.
+pub mod MarkLaws
 pub mod CharacterLaws
 pub mod TextLaws
 pub mod OutputLaws

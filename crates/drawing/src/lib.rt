@@ -17,8 +17,9 @@ use subchars::Code;
 use subchars::Direction;
 use subchars::Mode;
 ghost use mathlib.Core.Path.{_≡_};
+ghost use mathlib.Core.Bool.{true};
 ghost use mathlib.Core.List.{List};
-ghost use Prim.Native.Nat.{ℕ, _≤_};
+ghost use Prim.Native.Nat.{ℕ, _+_, _≤_};
 ghost use lib.IntN.{pos};
 ghost use lib.ListN.{length};
 ghost use Rattle.ground.specs.Limits.{maxCommands};
@@ -88,10 +89,31 @@ fn mode_of(header: Header) -> Mode
     }
 }
 
+// Whether one byte of a line and an LF stand at a place: what is behind most rows of a font.
+fn one_mark(font: &[u8], at: usize) -> bool
+    requires { ⌜ at ≤ length (now font) ⌝ }
+    ensures { λ b. ⌜ (b ≡ true → nextStart (now (font .entry)) at ≡ at + 2) ⌝ }
+{
+    if font.len() <= at + 1 {
+        return false;
+    }
+    if font[at + 1] != b'\n' {
+        return false;
+    }
+    if font[at] == b'\n' {
+        return false;
+    }
+    font[at] != b'\r'
+}
+
 // Where the line behind a place starts.
 fn next_place(font: &[u8], at: usize) -> usize
+    requires { ⌜ at ≤ length (now font) ⌝ }
     ensures { λ r. ⌜ r ≡ nextStart (now (font .entry)) at ⌝ }
 {
+    if one_mark(font, at) {
+        return at + 2;
+    }
     let cursor = Cursor { at };
     match cursor.next(font) {
         LineStep::Line {

@@ -35,7 +35,10 @@ add-next-place c =
     search needs
 
 next-place-requires : tie.Need-next-place-requires Inv-loop μ-loop
-next-place-requires c κs = search needs
+next-place-requires c κs =
+    let l = c .before .loop in
+    let a = c .before .before .before .args in
+    omega (arith, l .inv .1, c .before .before .before .pre .1 .fits (l .r) (c .loop-test .taken))
 
 add-r : tie.Need-add-r Inv-loop μ-loop
 add-r c = omega (arith, c .before .loop-test .taken)

@@ -1,11 +1,20 @@
 -- `drawing::next_place` meets its contract.
 -- Assumes nothing.
 use mathlib.Core.Path.{sym, _∙_}
-use borrow.Author.Needs.{needs}
 use Rattle.lines.proofs.LineLaws.{line-found, line-missed}
 use Rattle.request.proofs.PlaceLaws.{next-stuck}
+use borrow.Author.Needs.{needs}
 use Rattle.drawing.proofs.next_place.Statement.{statement}
 use Rattle.drawing.proofs.next_place.Tie as tie
+
+one-mark-requires : tie.Need-one-mark-requires
+one-mark-requires c κs = search needs
+
+add-result : tie.Need-add-result
+add-result c = search needs
+
+returns : tie.Need-returns
+returns c = sym (c .before .one-mark .ensures (c .if1 .taken))
 
 next-requires : tie.Need-next-requires
 next-requires c κs = search needs
@@ -16,11 +25,21 @@ enum-known-next c = search needs
 enum-told : tie.Need-enum-told
 enum-told c = search needs
 
-returns : tie.Need-returns
-returns c = line-found _ _ _ _ _ (sym (c .before .next2 .given .1) ∙ c .before .before .before .next .ensures) .further
-
 returns-2 : tie.Need-returns-2
-returns-2 c = sym (next-stuck _ _ (line-missed _ _ (sym (c .enum-told .given .1) ∙ c .before .before .next .ensures)))
+returns-2 c = line-found _ _ _ _ _ (sym (c .before .next2 .given .1) ∙ c .before .before .before .next .ensures) .further
+
+returns-3 : tie.Need-returns-3
+returns-3 c = sym (next-stuck _ _ (line-missed _ _ (sym (c .enum-told .given .1) ∙ c .before .before .next .ensures)))
 
 pub next-place-spec : {M : Type 1} → statement M
-next-place-spec = tie.close (tie.spec next-requires enum-known-next enum-told returns returns-2)
+next-place-spec =
+    tie.close
+    (tie.spec
+    one-mark-requires
+    add-result
+    returns
+    next-requires
+    enum-known-next
+    enum-told
+    returns-2
+    returns-3)
