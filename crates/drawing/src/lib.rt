@@ -126,20 +126,18 @@ fn next_place(font: &[u8], at: usize) -> usize
 }
 
 // Where the rows of a FIGcharacter start. A row's own bytes are passed over: only the endmarks behind them are looked at.
-fn find_rows(font: &[u8], start: usize, width: usize, h: usize) -> [usize; 32]
-    requires { ⌜ h ≤ 32 ⌝ }
+fn find_rows(font: &[u8], start: usize, width: usize, h: usize, rows: &mut [usize])
+    requires { ⌜ h ≤ length (now rows) ⌝ }
     requires { ⌜ Standing (now font) start width h ⌝ }
-    ensures { λ r. ⌜ RowPlaces (now (font .entry)) start h r ⌝ }
+    ensures { λ _. ⌜ RowPlaces (now (font .entry)) start h (now (rows .exit)) ⌝ }
 {
-    let mut places = [0usize; 32];
     let mut r: usize = 0;
     let mut at = start;
     while r < h {
-        places[r] = at;
+        rows[r] = at;
         at = next_place(font, at + width);
         r += 1;
     }
-    places
 }
 
 // Joins the FIGcharacter that is used for a code to the line, n wide, in the area; answers the new width.
@@ -168,7 +166,8 @@ fn draw_code(
             let start = entry.start;
             let width = entry.width;
             let height = header.height;
-            let at = find_rows(font, start, width, height);
+            let mut at = [0usize; limits::MAX_HEIGHT];
+            find_rows(font, start, width, height, &mut at);
             figure::attach(area, rows, n, mode, font, &at, width, height)
         }
         Use::Nothing => n,
