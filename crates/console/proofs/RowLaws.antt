@@ -1,32 +1,30 @@
 -- Where a line is drawn, its rows lie in the output.
 -- Assumes nothing.
-use mathlib.Core.Path.{_≡_, refl, sym, ap, _∙_}
+use mathlib.Core.Path.{_≡_, refl, ap, _∙_}
 use mathlib.Core.Bool.{Bool, true, false, cond}
 use mathlib.Core.List.{List}
-use Prim.Native.Nat.{ℕ, _+_, _*_, _≤_, _<_}
+use Prim.Native.Nat.{ℕ, _+_, _*_, _≤_}
 use native.Mathlib.Omega.{arith}
 use native.Mathlib.Decide.{decLt}
 use lib.Dec.{ltb}
 use lib.IntN.{ℤ}
 use lib.ListN.{length}
 use borrow.Author.Tests.{ltb-false}
-use Rattle.ground.specs.Limits.{maxHeight, maxLineWidth}
-use Rattle.ground.specs.Refusals.{refusal, textTooLong, lineTooWide, areaTooSmall}
+use Rattle.ground.specs.Limits.{maxLineWidth}
+use Rattle.ground.specs.Refusals.{lineTooWide, areaTooSmall}
 use Rattle.ground.specs.declared.refusals.Refusal.{Refusal}
 use Rattle.join.specs.Join.{Figure}
 use Rattle.figure.specs.Line.{outputOf}
-use Rattle.figure.specs.declared.Output.{Output}
 use Rattle.figure.specs.declared.Output.the-variants as output
-use Rattle.header.specs.declared.Header.{Header}
 use Rattle.drawing.specs.declared.Files.{Files}
 use Rattle.drawing.specs.declared.Files.the-variants as files
 use Rattle.drawing.specs.declared.DrawAnswer.{DrawAnswer}
 use Rattle.drawing.specs.declared.DrawAnswer.the-variants.{Drawn, Refused}
-use Rattle.drawing.specs.Drawing.{maxText, Lined, lined, unlined, linedOf, answering, answerOf, PutOut}
+use Rattle.drawing.specs.Drawing.{maxText, Lined, unlined, linedOf, answering, answerOf, PutOut}
 use Rattle.drawing.specs.Held.{FilesHeld}
 use Rattle.drawing.proofs.CharacterLaws.{few-rows}
 use Rattle.drawing.proofs.OutputLaws.{text-long, text-lined}
-use Rattle.console.specs.Rows.{heightOf, RowsIn}
+use Rattle.console.specs.Rows.{RowsIn}
 
 -- A refused line has no width.
 unlined-none : (l : Lined) (r : Refusal) (room w : ℕ) → l ≡ unlined r → Drawn w ≡ answerOf l room → ⊥

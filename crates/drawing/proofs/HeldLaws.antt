@@ -20,7 +20,7 @@ use Rattle.flc.specs.declared.ControlAnswer.the-variants as answer
 use Rattle.flc.specs.Control as flc
 use Rattle.flc.specs.Mapping.{ControlTold}
 use Rattle.drawing.specs.declared.Files.{Files}
-use Rattle.drawing.specs.Drawing.{unlined, linedBy, linedOf}
+use Rattle.drawing.specs.Drawing.{linedBy, linedOf}
 use Rattle.drawing.specs.Held.{FontHeld, FontTold, filesOf, FilesHeld}
 
 -- A filled list has its length.

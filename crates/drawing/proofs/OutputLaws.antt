@@ -1,9 +1,9 @@
 -- What is put out of the scratch area is what the line of the text comes to, and what each refusal leaves.
 -- Assumes nothing.
-use mathlib.Core.Path.{_≡_, refl, sym, ap, _∙_, subst}
+use mathlib.Core.Path.{_≡_, refl, sym, ap, _∙_}
 use mathlib.Core.Bool.{Bool, cond}
 use mathlib.Core.List.{List}
-use Prim.Native.Nat.{ℕ, _+_, _-_, _≤_, _<_}
+use Prim.Native.Nat.{ℕ, _-_, _≤_, _<_}
 use native.Mathlib.Omega.{arith}
 use native.Mathlib.Decide.{decLt}
 use lib.Dec.{ltb}
@@ -26,7 +26,7 @@ use Rattle.flc.specs.declared.Command.{Command}
 use Rattle.flc.specs.Control as flc
 use Rattle.drawing.specs.declared.DrawAnswer.{DrawAnswer}
 use Rattle.drawing.specs.declared.DrawAnswer.the-variants.{Refused}
-use Rattle.drawing.specs.Drawing.{maxText, modeOf, lineOf, Lined, lined, unlined, linedBy, linedOf, answering, answerOf, bytesOf, PutOut}
+use Rattle.drawing.specs.Drawing.{maxText, modeOf, lineOf, lined, unlined, linedBy, linedOf, answering, answerOf, bytesOf, PutOut}
 use Rattle.drawing.specs.Steps.{Reached}
 
 -- A refusal leaves zeros.

@@ -1,12 +1,11 @@
 -- A control file that was read into lists is held by them, and a code maps by the lists as by the file.
 -- Assumes nothing.
-use mathlib.Core.Path.{_≡_, sym, ap, _∙_, subst}
+use mathlib.Core.Path.{_≡_, sym, _∙_, subst}
 use mathlib.Core.List.{List}
 use Prim.Native.Nat.{ℕ}
 use native.Mathlib.Nat.{zero-add}
 use lib.IntN.{ℤ}
 use lib.ListN.{length}
-use Rattle.ground.specs.declared.refusals.Refusal.{Refusal}
 use Rattle.subchars.specs.declared.Code.{Code}
 use Rattle.commands.proofs.SoundLaws.{Bytes}
 use Rattle.flc.specs.declared.Command.{Command}

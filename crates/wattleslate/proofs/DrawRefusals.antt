@@ -1,16 +1,15 @@
 -- Each answer of a drawing is given exactly when document 01 says so.
 -- Assumes nothing.
 use mathlib.Core.Path.{_≡_, refl, sym, ap, _∙_}
-use mathlib.Core.Bool.{Bool, true, false, cond}
+use mathlib.Core.Bool.{Bool, true, false}
 use mathlib.Core.List.{List}
 use Prim.Native.Nat.{ℕ, _+_, _*_, _≤_, _<_}
 use lib.Dec.{ltb}
 use lib.ListN.{length}
-use borrow.Author.Tests.{lt-ltb, le-ltb, ltb-true, ltb-false}
+use borrow.Author.Tests.{ltb-true, ltb-false}
 use Rattle.ground.specs.Limits.{maxLineWidth}
 use Rattle.ground.specs.Refusals.{refusal, areaTooSmall, textTooLong, lineTooWide}
 use Rattle.ground.specs.declared.refusals.Refusal.{Refusal}
-use Rattle.join.specs.Join.{Figure}
 use Rattle.figure.specs.Line.{outputOf}
 use Rattle.figure.proofs.Showing.{too-wide, no-room, drawn}
 use Rattle.header.specs.declared.Header.{Header}
@@ -20,7 +19,7 @@ use Rattle.flc.specs.declared.Command.{Command}
 use Rattle.flc.specs.Control as flc
 use Rattle.drawing.specs.declared.DrawAnswer.{DrawAnswer}
 use Rattle.drawing.specs.declared.DrawAnswer.the-variants.{Drawn, Refused}
-use Rattle.drawing.specs.Drawing.{maxText, lineOf, Lined, lined, unlined, linedBy, linedOf, answering, answerOf}
+use Rattle.drawing.specs.Drawing.{maxText, lineOf, Lined, unlined, linedBy, linedOf, answering, answerOf}
 use Rattle.drawing.proofs.OutputLaws.{text-long, text-lined}
 use Rattle.wattleslate.specs.DrawCall.{minScratch, drawLined}
 use Rattle.wattleslate.proofs.DrawCases.{lined-small, lined-enough}

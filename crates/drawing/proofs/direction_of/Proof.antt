@@ -4,7 +4,6 @@ use mathlib.Core.Bool.{Bool, cond}
 use mathlib.Core.Path.{sym, ap, _∙_}
 use borrow.Author.Needs.{needs}
 use borrow.Author.Tests.{ne-eqb}
-use Rattle.header.specs.declared.Given.{Given}
 use Rattle.subchars.specs.declared.Direction.the-variants.{LeftToRight, RightToLeft}
 use Rattle.drawing.specs.Drawing.{directionOf}
 use Rattle.drawing.proofs.direction_of.Statement.{statement}

@@ -1,7 +1,6 @@
 -- `drawing::files_of` meets its contract.
 -- Assumes nothing.
-use mathlib.Core.Path.{sym, ap, ap₂, _∙_}
-use Rattle.flc.specs.declared.ControlAnswer.{ControlAnswer}
+use mathlib.Core.Path.{sym, ap, ap₂}
 use Rattle.reader.specs.declared.FontStep.{FontStep}
 use Rattle.drawing.specs.Held.{filesOf}
 use borrow.Author.Needs.{needs}

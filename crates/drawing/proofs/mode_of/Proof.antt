@@ -3,7 +3,6 @@
 use mathlib.Core.Path.{ap}
 use borrow.Author.Needs.{needs}
 use Rattle.subchars.specs.declared.Direction.{Direction}
-use Rattle.subchars.specs.declared.Mode.{Mode}
 use Rattle.drawing.specs.Drawing.{modeOf}
 use Rattle.drawing.proofs.mode_of.Statement.{statement}
 use Rattle.drawing.proofs.mode_of.Tie as tie

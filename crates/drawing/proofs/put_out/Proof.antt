@@ -1,6 +1,6 @@
 -- `drawing::put_out` meets its contract.
 -- Assumes nothing.
-use mathlib.Core.Path.{sym, ap, _∙_}
+use mathlib.Core.Path.{sym, ap}
 use Rattle.drawing.specs.Drawing.{answering}
 use Rattle.drawing.proofs.OutputLaws.{lined-out}
 use borrow.Author.Needs.{needs}

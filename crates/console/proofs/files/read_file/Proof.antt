@@ -1,6 +1,6 @@
 -- `console::files::read_file` meets its contract. The invariant: what is read lies in the buffer. The measure is the room that is left.
 -- Assumes nothing.
-use mathlib.Core.Path.{_≡_, refl, sym, _∙_}
+use mathlib.Core.Path.{_≡_}
 use Prim.Native.Nat.{_≤_, _-_}
 use native.Mathlib.Omega.{arith}
 use lib.ListN.{length}
