@@ -40,7 +40,8 @@ int main(int count, char **words) {
     fflush(stdout);
     char user[64];
     if (fgets(user, sizeof user, stdin) == NULL) {
-        printf("\n");
+        return 1;
     }
+    puts("(here the password is asked)");
     return 0;
 }

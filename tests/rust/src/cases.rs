@@ -111,6 +111,9 @@ const JOINS: &[(&str, &str, usize, usize, u32, &str)] = &[
     ("  ", "  ", 0, 0, 0, "    "),
 ];
 
+/// "A backslash with a blank, one of `abefnrtv\\` (7, 8, 27, 12, 10, 13, 9, 11, 92)."
+const ESCAPES: &str = "t \\a A\nt \\b B\nt \\e C\nt \\f D\nt \\n E\nt \\r F\nt \\t G\nt \\v H\nt \\\\ I\nt \\  J";
+
 /// Drawings with the font of the program banner: header, control file, text, output.
 const DRAWINGS: &[(&str, &str, &str, &str)] = &[
     (HEADER, "", "sw11", "sw11\n"),
@@ -119,6 +122,7 @@ const DRAWINGS: &[(&str, &str, &str, &str)] = &[
     ("flf2a$ 1 1 4 -1 0 1", "", "ab", "ba\n"),
     (HEADER, "t A B\nt B A", "AB", "BA\n"),
     (HEADER, "t A B\nf\nt B A", "AB", "AA\n"),
+    (HEADER, ESCAPES, "\x07\x08\x1b\x0c\n\r\t\x0b\\ ", "ABCDEFGHIJ\n"),
     (HEADER, "", "a $b", "a  b\n"),
     (HEADER, "", "\u{1}a", "a\n"),
     (HEADER, "", "", "\n"),

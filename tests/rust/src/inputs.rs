@@ -4,6 +4,8 @@ use crate::random::Random;
 
 const MARKS: &[u8] = b"|/\\[]{}()<>_$#@ab";
 const HARDBLANKS: &[u8] = b"$$$$$$|_/Y#\t\x7f\xe4";
+/// The codes that a backslash and a letter stand for.
+const ESCAPED: &[u8] = &[7, 8, 27, 12, 10, 13, 9, 11, 92, 32];
 const ENDS: &[&[u8]] = &[b"\n", b"\n", b"\r\n", b"\r"];
 
 /// A hardblank that is nearly always legal.
@@ -69,7 +71,8 @@ fn rows(r: &mut Random, height: usize, width: usize, hardblank: u8) -> Vec<u8> {
 pub fn layout(r: &mut Random) -> usize {
     match r.below(40) {
         0 => r.pick(&[32767, 32768, 65535, 1 << 32, usize::MAX]),
-        1..=6 => 0,
+        1..=4 => 0,
+        5 | 6 => r.below(64),
         7..=12 => 64,
         13..=19 => 128,
         20..=25 => r.below(32768),
@@ -216,7 +219,11 @@ fn character(r: &mut Random, s: &Sizes, end: &[u8], out: &mut Vec<u8>) {
 }
 
 fn tag(r: &mut Random, wild: bool) -> Vec<u8> {
-    let n = if r.one_in(4) { r.next() as i32 as i64 } else { r.below(256) as i64 };
+    let n = match r.below(4) {
+        0 => r.next() as i32 as i64,
+        1 => r.pick(ESCAPED) as i64,
+        _ => r.below(256) as i64,
+    };
     let n = if n == -1 { 0 } else { n };
     let (minus, size) = if n < 0 { ("-", -n) } else { ("", n) };
     let mut text = match r.below(5) {
@@ -270,8 +277,8 @@ pub fn font(r: &mut Random) -> Vec<u8> {
 
 fn control_character(r: &mut Random) -> Vec<u8> {
     match r.below(12) {
-        0 => vec![b'\\', r.pick(b" abefnrtv\\")],
-        1 => [b"\\".to_vec(), tag(r, true)].concat(),
+        0 | 1 => vec![b'\\', r.pick(b" abefnrtv\\")],
+        5 => [b"\\".to_vec(), tag(r, true)].concat(),
         2 => vec![b'-'],
         3 => vec![r.byte()],
         4 => vec![b'\\', r.byte()],
@@ -361,5 +368,11 @@ pub fn text(r: &mut Random) -> Vec<u8> {
         _ => r.below(24),
     };
     let any = r.one_in(5);
-    (0..length).map(|_| if any { r.byte() } else { r.between(32, 126) as u8 }).collect()
+    let one = |r: &mut Random| match r.below(8) {
+        0 => r.pick(ESCAPED),
+        1..=4 if any => r.byte(),
+        1 => r.pick(b"abcdABCD"),
+        _ => r.between(32, 126) as u8,
+    };
+    (0..length).map(|_| one(r)).collect()
 }

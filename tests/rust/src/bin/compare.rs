@@ -92,6 +92,25 @@ fn rooms(r: &mut Random, font: &[u8], control: &[u8], text: &[u8]) -> (usize, us
     (scratch, out)
 }
 
+/// Cuts a long text where its line becomes too wide, or one byte behind.
+fn cut(r: &mut Random, font: &[u8], control: &[u8], text: &mut Vec<u8>) {
+    let (mut scratch, mut out) = (vec![0; 32000], vec![0; 33000]);
+    let mut is_wide = |n: usize| plain::draw::draw(font, control, &text[..n], &mut scratch, &mut out) >> 32 == 16;
+    let (mut fits, mut wide) = (0, text.len());
+    if !is_wide(wide) {
+        return;
+    }
+    while fits + 1 < wide {
+        let middle = (fits + wide) / 2;
+        if is_wide(middle) {
+            wide = middle;
+        } else {
+            fits = middle;
+        }
+    }
+    text.truncate(if r.one_in(3) { wide } else { fits });
+}
+
 fn compare_draw(r: &mut Random, font: &[u8], control: &[u8], text: &[u8], count: &mut Count) {
     let (scratch_room, out_room) = rooms(r, font, control, text);
     let (scratch, out) = (r.bytes(scratch_room), r.bytes(out_room));
@@ -114,7 +133,7 @@ fn compare_draw(r: &mut Random, font: &[u8], control: &[u8], text: &[u8], count:
 fn main() {
     let mut given = std::env::args().skip(1).map(|a| a.parse::<u64>().expect("a number"));
     let seed = given.next().unwrap_or(2026_11_15);
-    let times = given.next().unwrap_or(12_000);
+    let times = given.next().unwrap_or(20_000);
     let (made, wrong) = cases::run();
     println!("cases of the paper: {made}, {wrong} wrong\nseed {seed}");
     if wrong > 0 {
@@ -136,8 +155,11 @@ fn main() {
         for _ in 0..3 {
             compare_control(&inputs::control(&mut r), &mut counts[2]);
         }
-        let (control, text) = (inputs::control(&mut r), inputs::text(&mut r));
+        let (control, mut text) = (inputs::control(&mut r), inputs::text(&mut r));
         let control = if r.one_in(2) { b"" } else { &control[..] };
+        if text.len() > 100 && r.one_in(2) {
+            cut(&mut r, &font, control, &mut text);
+        }
         compare_draw(&mut r, &font, control, &text, &mut counts[3]);
     }
     counts.iter().for_each(Count::print);

@@ -116,10 +116,7 @@ pub fn read(file: &[u8]) -> Result<Control, Refusal> {
     if file.len() > 16384 {
         return refuse(10, 0);
     }
-    let mut read = Control {
-        commands: Vec::new(),
-        stages: 1,
-    };
+    let mut read = Control { commands: Vec::new(), stages: 1 };
     let passed = file.starts_with(b"flc2a") as usize;
     for line in lines(file).into_iter().skip(passed) {
         match kind(&file[line.start..line.end]) {
@@ -128,12 +125,7 @@ pub fn read(file: &[u8]) -> Result<Control, Refusal> {
             Ok(Kind::NewStage) if read.stages >= 64 => return refuse(14, line.start),
             Ok(Kind::NewStage) => read.stages += 1,
             Ok(Kind::Mapping { .. }) if read.commands.len() >= 256 => return refuse(14, line.start),
-            Ok(Kind::Mapping { first, last, first_new }) => read.commands.push(Command {
-                stage: read.stages - 1,
-                first,
-                last,
-                first_new,
-            }),
+            Ok(Kind::Mapping { first, last, first_new }) => read.commands.push(Command { stage: read.stages - 1, first, last, first_new }),
         }
     }
     Ok(read)

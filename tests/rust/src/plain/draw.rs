@@ -7,23 +7,13 @@ use super::{packed, refuse, Refusal};
 
 fn block(font: &[u8], character: &Character) -> Block {
     let rows = character.rows.iter().map(|at| font[*at..*at + character.width].to_vec()).collect();
-    Block {
-        width: character.width,
-        rows,
-    }
+    Block { width: character.width, rows }
 }
 
 /// The line, or one wider than 1,000 as soon as there is one: a line never becomes narrower.
 fn line(bytes: &[u8], font: &Font, control: &Control, text: &[u8]) -> Block {
-    let mode = Mode {
-        layout: font.header.layout,
-        right_to_left: font.header.right_to_left,
-        hardblank: font.header.hardblank,
-    };
-    let mut line = Block {
-        width: 0,
-        rows: vec![Vec::new(); font.header.height],
-    };
+    let mode = Mode { layout: font.header.layout, right_to_left: font.header.right_to_left, hardblank: font.header.hardblank };
+    let mut line = Block { width: 0, rows: vec![Vec::new(); font.header.height] };
     for byte in text {
         let code = control.map(*byte as i32);
         if let Some(character) = font.look_up(code) {

@@ -49,11 +49,7 @@ impl<'a> Reader<'a> {
     }
 
     fn character(&mut self, code: i32, header: &Header) -> Result<Character, Refusal> {
-        let mut character = Character {
-            code,
-            width: 0,
-            rows: Vec::new(),
-        };
+        let mut character = Character { code, width: 0, rows: Vec::new() };
         for row in 0..header.height {
             let line = self.next_line()?;
             let Some(width) = row_width(self.text(line), header) else {
@@ -90,11 +86,7 @@ pub fn read(font: &[u8]) -> Result<Font, Refusal> {
     if font.len() > 65536 {
         return refuse(1, 0);
     }
-    let mut reader = Reader {
-        font,
-        lines: lines(font),
-        at: 1,
-    };
+    let mut reader = Reader { font, lines: lines(font), at: 1 };
     let Some(first) = reader.lines.first() else {
         return refuse(2, 0);
     };

@@ -88,11 +88,7 @@ impl Request<'_> {
         if !self.is_good() {
             return refuse(17, 0);
         }
-        let mode = Mode {
-            layout: full_layout(self.layout),
-            right_to_left: self.direction == 1,
-            hardblank: self.hardblank,
-        };
+        let mode = Mode { layout: full_layout(self.layout), right_to_left: self.direction == 1, hardblank: self.hardblank };
         let line = block(self.line, self.line_width, self.height);
         let character = block(self.character, self.character_width, self.height);
         let (overlap, result) = put(mode, &line, &character);

@@ -16,10 +16,7 @@ pub struct Refusal {
 }
 
 pub fn refuse<T>(number: u64, place: usize) -> Result<T, Refusal> {
-    Err(Refusal {
-        number,
-        place: place as u64,
-    })
+    Err(Refusal { number, place: place as u64 })
 }
 
 /// An answer as one number: a value, or a refusal's number above its place.
