@@ -1,4 +1,4 @@
-//! A plain implementation of document 01, written from that paper alone: as short as it can be, and not fast.
+//! A plain implementation of document 01, written from that paper and sharing no code with the crates: short, and not fast.
 pub mod control;
 pub mod draw;
 pub mod font;
