@@ -1,0 +1,2 @@
+-- The laws of the calls for programs in C and Rust.
+pub mod JoinLaws

@@ -1,0 +1,62 @@
+-- `capi::wattleslate_check_control` meets its contract, for every input.
+-- Assumes nothing.
+use mathlib.Core.Path.{sym, ap, _∙_}
+use Rattle.flc.specs.declared.ControlAnswer.{ControlAnswer}
+use Rattle.wattleslate.specs.ControlCall.{controlTells}
+use Rattle.capi.specs.Numbers.{packed, controlNumber}
+use borrow.Author.Needs.{needs}
+use Rattle.capi.proofs.wattleslate_check_control.Statement.{statement}
+use Rattle.capi.proofs.wattleslate_check_control.Tie as tie
+
+slice-aggregate-read-lists : tie.Need-slice-aggregate-read-lists
+slice-aggregate-read-lists c = search needs
+
+slice-aggregate-read-lists-2 : tie.Need-slice-aggregate-read-lists-2
+slice-aggregate-read-lists-2 c = search needs
+
+slice-aggregate-read-lists-3 : tie.Need-slice-aggregate-read-lists-3
+slice-aggregate-read-lists-3 c = search needs
+
+slice-aggregate-read-lists-4 : tie.Need-slice-aggregate-read-lists-4
+slice-aggregate-read-lists-4 c = search needs
+
+read-lists-requires : tie.Need-read-lists-requires
+read-lists-requires c κs = search needs
+
+enum-known-commands : tie.Need-enum-known-commands
+enum-known-commands c = search needs
+
+paired-requires : tie.Need-paired-requires
+paired-requires c κs = search needs
+
+packed-requires : tie.Need-packed-requires
+packed-requires c κs = search needs
+
+enum-known-r : tie.Need-enum-known-r
+enum-known-r c = search needs
+
+packed-requires-2 : tie.Need-packed-requires-2
+packed-requires-2 c κs = search needs
+
+returns : tie.Need-returns
+returns c = c .packed .ensures ∙ ap (packed 0) (c .before .paired .ensures) ∙ ap (λ (a : ControlAnswer). controlNumber (controlTells a)) (sym (c .before .before .before .commands .given .1) ∙ c .before .before .before .before .before .before .before .before .before .read-lists .ensures .answer)
+
+returns-2 : tie.Need-returns-2
+returns-2 c = c .packed2 .ensures ∙ ap (λ (a : ControlAnswer). controlNumber (controlTells a)) (sym (c .before .before .r .given .1) ∙ c .before .before .before .before .before .before .before .before .read-lists .ensures .answer)
+
+pub wattleslate-check-control-spec : {M : Type 1} → statement M
+wattleslate-check-control-spec =
+    tie.close
+    (tie.spec
+    slice-aggregate-read-lists
+    slice-aggregate-read-lists-2
+    slice-aggregate-read-lists-3
+    slice-aggregate-read-lists-4
+    read-lists-requires
+    enum-known-commands
+    paired-requires
+    packed-requires
+    enum-known-r
+    packed-requires-2
+    returns
+    returns-2)

@@ -1,0 +1,57 @@
+-- `capi::wattleslate_draw` meets its contract, for every input.
+-- Assumes nothing.
+use mathlib.Core.Path.{sym, ap, _∙_}
+use Rattle.wattleslate.specs.DrawCall.{drawTells}
+use Rattle.capi.specs.Numbers.{drawNumber}
+use borrow.Author.Needs.{needs}
+use Rattle.capi.proofs.wattleslate_draw.Statement.{statement}
+use Rattle.capi.proofs.wattleslate_draw.Tie as tie
+
+draw-requires : tie.Need-draw-requires
+draw-requires c κs = search needs
+
+enum-known-width : tie.Need-enum-known-width
+enum-known-width c = search needs
+
+packed-requires : tie.Need-packed-requires
+packed-requires c κs = search needs
+
+enum-known-r : tie.Need-enum-known-r
+enum-known-r c = search needs
+
+packed-requires-2 : tie.Need-packed-requires-2
+packed-requires-2 c κs = search needs
+
+same-length : tie.Need-same-length
+same-length c = search needs
+
+same-length-2 : tie.Need-same-length-2
+same-length-2 c = search needs
+
+returns : tie.Need-returns
+returns c = let e = c .before .before .before .before .before .before .before .before .draw .ensures in (c .packed .ensures ∙ ap drawNumber (sym (ap drawTells (c .before .before .width .given .1)) ∙ e .0), e .1)
+
+same-length-3 : tie.Need-same-length-3
+same-length-3 c = search needs
+
+same-length-4 : tie.Need-same-length-4
+same-length-4 c = search needs
+
+returns-2 : tie.Need-returns-2
+returns-2 c = let e = c .before .before .before .before .before .before .before .before .draw .ensures in (c .packed2 .ensures ∙ ap drawNumber (sym (ap drawTells (c .before .before .r .given .1)) ∙ e .0), e .1)
+
+pub wattleslate-draw-spec : {M : Type 1} → statement M
+wattleslate-draw-spec =
+    tie.close
+    (tie.spec
+    draw-requires
+    enum-known-width
+    packed-requires
+    enum-known-r
+    packed-requires-2
+    same-length
+    same-length-2
+    returns
+    same-length-3
+    same-length-4
+    returns-2)

@@ -1,0 +1,139 @@
+// The calls for programs in C and Rust: byte slices and numbers in, one number out. Each is total, as the calls that it stands on.
+use drawing::DrawAnswer;
+use flc::ControlAnswer;
+use ground::limits;
+use ground::refusals;
+use ground::refusals::Refusal;
+use reader::FontStep;
+use subchars::Direction;
+use subchars::Layout;
+use subchars::SubCharacter;
+use wattleslate::JoinAnswer;
+ghost use mathlib.Core.Path.{_≡_};
+ghost use lib.ListN.{length};
+ghost use Rattle.ground.specs.Area.{zeros};
+ghost use Rattle.ground.specs.declared.refusals.Refusal.{Refusal};
+ghost use Rattle.font.specs.Font.{reading};
+ghost use Rattle.flc.specs.Control.{control};
+ghost use Rattle.reader.specs.Reader.{stepOf};
+ghost use Rattle.wattleslate.specs.ControlCall.{controlTold};
+ghost use Rattle.wattleslate.specs.DrawCall.{drawTold, drawOutput};
+ghost use Rattle.capi.specs.Numbers.{packed, paired, directionBy, fontNumber, controlNumber, drawNumber, joinNumber, joinTaken, joinLeft};
+
+const MAX_FULL_LAYOUT: usize = 32767;
+
+// A refusal's number above a place, or 0 above a value.
+fn packed(number: usize, low: usize) -> u64
+    ensures { λ r. ⌜ r ≡ packed number low ⌝ }
+{
+    (number % 256) as u64 * 4294967296 + (low % 4294967296) as u64
+}
+
+// Two values in one.
+fn paired(high: usize, low: usize) -> usize
+    ensures { λ r. ⌜ r ≡ paired high low ⌝ }
+{
+    high % 65536 * 65536 + low % 65536
+}
+
+// The direction of a Print_Direction.
+fn direction_of(n: usize) -> Direction
+    ensures { λ d. ⌜ d ≡ directionBy n ⌝ }
+{
+    if n == 1 {
+        Direction::RightToLeft
+    } else {
+        Direction::LeftToRight
+    }
+}
+
+// Reads a font, and answers its height and how many characters it has. Refusals 1 to 8.
+#[no_mangle]
+pub extern "C" fn wattleslate_check_font(font: &[u8]) -> u64
+    ensures answer { λ r. ⌜ r ≡ fontNumber (stepOf (reading (now (font .entry)))) ⌝ }
+{
+    let mut codes = [0i32; chars::MAX_CHARACTERS];
+    let mut starts = [0usize; chars::MAX_CHARACTERS];
+    let mut widths = [0usize; chars::MAX_CHARACTERS];
+    match reader::read_lists(font, &mut codes, &mut starts, &mut widths) {
+        FontStep::Read { header, count } => {
+            let height = header.height;
+            packed(0, paired(height, count))
+        }
+        FontStep::Unread(r) => packed(r.number, r.place),
+    }
+}
+
+// Reads a control file, and answers how many stages and commands it has. Refusals 10 to 14.
+#[no_mangle]
+pub extern "C" fn wattleslate_check_control(file: &[u8]) -> u64
+    ensures answer { λ r. ⌜ r ≡ controlNumber (controlTold (control (now (file .entry)))) ⌝ }
+{
+    let mut stages = [0usize; limits::MAX_COMMANDS];
+    let mut firsts = [0i32; limits::MAX_COMMANDS];
+    let mut lasts = [0i32; limits::MAX_COMMANDS];
+    let mut news = [0i32; limits::MAX_COMMANDS];
+    match flc::read_lists(file, &mut stages, &mut firsts, &mut lasts, &mut news) {
+        ControlAnswer::Read {
+            commands,
+            stages: k,
+        } => packed(0, paired(k, commands)),
+        ControlAnswer::Refused(r) => packed(r.number, r.place),
+    }
+}
+
+// Draws a line of text, and answers its width: `wattleslate::draw`.
+#[no_mangle]
+pub extern "C" fn wattleslate_draw(
+    font: &[u8],
+    control: &[u8],
+    text: &[u8],
+    scratch: &mut [u8],
+    out: &mut [u8],
+) -> u64
+    ensures answer { λ r. ⌜ r ≡ drawNumber (drawTold (length (now (scratch .entry))) (now (font .entry)) (now (control .entry)) (now (text .entry)) (length (now (out .entry)))) ⌝ }
+    ensures output { λ r. ⌜ now (out .exit) ≡ drawOutput (length (now (scratch .entry))) (now (font .entry)) (now (control .entry)) (now (text .entry)) (length (now (out .entry))) ⌝ }
+    ensures scratch { λ r. ⌜ now (scratch .exit) ≡ zeros (length (now (scratch .entry))) ⌝ }
+{
+    match wattleslate::draw(font, control, text, scratch, out) {
+        DrawAnswer::Drawn(width) => packed(0, width),
+        DrawAnswer::Refused(r) => packed(r.number, r.place),
+    }
+}
+
+// Joins a FIGcharacter to a line, and answers overlap and width: `wattleslate::join`, with the layout as a Full_Layout (0 to 32,767) and the direction
+// as a Print_Direction (0 or 1). Any other number is refused 17.
+#[no_mangle]
+pub extern "C" fn wattleslate_join(
+    line: &[u8],
+    line_width: usize,
+    character: &[u8],
+    character_width: usize,
+    height: usize,
+    hardblank: u8,
+    layout: usize,
+    direction: usize,
+    out: &mut [u8],
+) -> u64
+    ensures answer { λ r. ⌜ r ≡ joinNumber (joinTaken layout direction hardblank height «line_width» (now (line .entry)) «character_width» (now (character .entry)) (length (now (out .entry)))) ⌝ }
+    ensures area { λ r. ⌜ now (out .exit) ≡ joinLeft layout direction hardblank height «line_width» (now (line .entry)) «character_width» (now (character .entry)) (length (now (out .entry))) ⌝ }
+{
+    if !ground::both(layout <= MAX_FULL_LAYOUT, direction <= 1) {
+        ground::zero_from(out, 0);
+        return packed(refusals::BAD_SHAPE, 0);
+    }
+    match wattleslate::join(
+        line,
+        line_width,
+        character,
+        character_width,
+        height,
+        SubCharacter(hardblank),
+        Layout::from_full(layout),
+        direction_of(direction),
+        out,
+    ) {
+        JoinAnswer::Joined { overlap, width } => packed(0, paired(overlap, width)),
+        JoinAnswer::Refused(r) => packed(r.number, r.place),
+    }
+}

@@ -1,0 +1,132 @@
+/* The calls of Wattleslate for programs in C: link target/staticlib/libcapi.a, which `rt staticlib capi` writes.
+ *
+ * Every call ends, tests its own input and answers one number. Nothing is asked of the input but what C itself asks: a pointer and the length
+ * behind it are those of an area of that many bytes, a pointer is not NULL even where the length is 0, and an area that is lent for writing lies in no
+ * other one that the same call is given. No call allocates, keeps a pointer, or uses anything outside of its arguments.
+ *
+ * The answer: 0 in the upper 32 bits and a value below, or a refusal's number in the upper 32 bits and its place below. After a refusal every area
+ * that was lent for writing is all zeros.
+ */
+#ifndef WATTLESLATE_H
+#define WATTLESLATE_H
+
+#include <stddef.h>
+#include <stdint.h>
+
+#ifdef __cplusplus
+extern "C" {
+#endif
+
+/* Sizes. A longer file or text is refused. */
+#define WATTLESLATE_MAX_FONT 65536u
+#define WATTLESLATE_MAX_CONTROL 16384u
+#define WATTLESLATE_MAX_TEXT 1024u
+#define WATTLESLATE_MAX_WIDTH 1000u
+#define WATTLESLATE_MAX_HEIGHT 32u
+#define WATTLESLATE_MAX_CHARACTER_WIDTH 199u
+#define WATTLESLATE_MAX_CHARACTERS 512u
+#define WATTLESLATE_MAX_COMMANDS 256u
+#define WATTLESLATE_MAX_STAGES 64u
+
+/* The scratch that drawing is lent has this many bytes or more. */
+#define WATTLESLATE_SCRATCH 32000u
+
+/* The bytes of a drawing: `height` rows of `width` columns, each with an LF. */
+#define WATTLESLATE_DRAWN(height, width) ((size_t)(height) * ((size_t)(width) + 1u))
+
+/* Room for every drawing of every font. */
+#define WATTLESLATE_MAX_DRAWN WATTLESLATE_DRAWN(WATTLESLATE_MAX_HEIGHT, WATTLESLATE_MAX_WIDTH)
+
+/* The refusal numbers, and what the place is: 0 where nothing is said. */
+enum wattleslate_refusal {
+    WATTLESLATE_NOT_REFUSED = 0,
+    WATTLESLATE_FONT_TOO_LONG = 1,
+    WATTLESLATE_NO_SIGNATURE = 2,        /* the first line does not begin with flf2a */
+    WATTLESLATE_BAD_HARDBLANK = 3,       /* absent, or blank, CR, LF, NUL */
+    WATTLESLATE_BAD_PARAMETERS = 4,      /* no blank or tab after the hardblank, under five numbers, or a value out of range */
+    WATTLESLATE_MISSING_LINE = 5,        /* the font ends before a needed line; place: its length */
+    WATTLESLATE_BAD_ROW = 6,             /* place: the start of that line */
+    WATTLESLATE_BAD_CODE_TAG = 7,        /* place: the start of that line */
+    WATTLESLATE_TOO_MANY_CHARACTERS = 8, /* a 513th; place: the start of its tag line */
+    WATTLESLATE_AREA_TOO_SMALL = 9,
+    WATTLESLATE_CONTROL_TOO_LONG = 10,
+    WATTLESLATE_NOT_A_COMMAND = 11,      /* place: the start of that line */
+    WATTLESLATE_BAD_RANGES = 12,         /* sizes differ, or first above last; place: the start of that line */
+    WATTLESLATE_EXTENDED_COMMAND = 13,   /* a line of h, j, b, u or g; place: the start of that line */
+    WATTLESLATE_TOO_MANY_COMMANDS = 14,  /* a 257th command or 65th stage; place: the start of that line */
+    WATTLESLATE_TEXT_TOO_LONG = 15,
+    WATTLESLATE_LINE_TOO_WIDE = 16,
+    WATTLESLATE_BAD_SHAPE = 17           /* a join of bad shape */
+};
+
+/* Layouts of a join, as a font's Full_Layout: one of these, or SMUSHING plus rules 1 to 63. Any number up to 32,767 means what it means there. */
+#define WATTLESLATE_FULL_WIDTH 0u
+#define WATTLESLATE_FITTING 64u
+#define WATTLESLATE_SMUSHING 128u /* without rules: universal */
+
+/* Directions of a join, as a font's Print_Direction. */
+#define WATTLESLATE_LEFT_TO_RIGHT 0u
+#define WATTLESLATE_RIGHT_TO_LEFT 1u
+
+/* Reads a font. Refusals 1 to 8. Value: wattleslate_height and wattleslate_characters. */
+uint64_t wattleslate_check_font(const uint8_t *font, size_t font_len);
+
+/* Reads a control file. Refusals 10 to 14. Value: wattleslate_stages and wattleslate_commands. */
+uint64_t wattleslate_check_control(const uint8_t *file, size_t file_len);
+
+/* Draws a line of text by a font and a control file, which may be empty. `out` then holds the rows, each with an LF, and zeros behind them; `scratch` is all
+ * zeros. Refusals: 9 for a scratch under WATTLESLATE_SCRATCH bytes, 1 to 8, 10 to 14, 15, 16, then 9 for `out`. Value: the width. */
+uint64_t wattleslate_draw(const uint8_t *font, size_t font_len, const uint8_t *control, size_t control_len, const uint8_t *text,
+                          size_t text_len, uint8_t *scratch, size_t scratch_len, uint8_t *out, size_t out_len);
+
+/* Puts a FIGcharacter to a line of equal height: to its right from left to right, otherwise to its left. A block's rows lie one after another; `out` then holds
+ * the result's, and zeros behind them. Refusals: 17 (height outside 1 to 32, line wider than 1,000, character wider than 199, a
+ * block that is not height times width long, a hardblank that is blank, CR, LF or NUL, a layout over 32,767, a direction other than 0
+ * and 1), 16, then 9. Value: wattleslate_overlap and wattleslate_width. */
+uint64_t wattleslate_join(const uint8_t *line, size_t line_len, size_t line_width, const uint8_t *character, size_t character_len,
+                          size_t character_width, size_t height, uint8_t hardblank, size_t layout, size_t direction, uint8_t *out,
+                          size_t out_len);
+
+/* An answer's refusal number, 0 for a success. */
+static inline enum wattleslate_refusal wattleslate_number(uint64_t answer) {
+    return (enum wattleslate_refusal)(answer >> 32);
+}
+
+/* A refusal's place. */
+static inline uint32_t wattleslate_place(uint64_t answer) {
+    return (uint32_t)answer;
+}
+
+/* Of wattleslate_draw and wattleslate_join, where not refused: the width of the drawing or of the result. */
+static inline uint32_t wattleslate_width(uint64_t answer) {
+    return (uint32_t)(answer & 0xFFFFu);
+}
+
+/* Of wattleslate_join, where not refused. */
+static inline uint32_t wattleslate_overlap(uint64_t answer) {
+    return (uint32_t)(answer >> 16 & 0xFFFFu);
+}
+
+/* Of wattleslate_check_font, where not refused: the height of the font, and how many characters it has. */
+static inline uint32_t wattleslate_height(uint64_t answer) {
+    return (uint32_t)(answer >> 16 & 0xFFFFu);
+}
+
+static inline uint32_t wattleslate_characters(uint64_t answer) {
+    return (uint32_t)(answer & 0xFFFFu);
+}
+
+/* Of wattleslate_check_control, where not refused. */
+static inline uint32_t wattleslate_stages(uint64_t answer) {
+    return (uint32_t)(answer >> 16 & 0xFFFFu);
+}
+
+static inline uint32_t wattleslate_commands(uint64_t answer) {
+    return (uint32_t)(answer & 0xFFFFu);
+}
+
+#ifdef __cplusplus
+}
+#endif
+
+#endif

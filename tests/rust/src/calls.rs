@@ -1,0 +1,89 @@
+//! The calls of the static library, in safe functions. They ask nothing of their input, so nothing is tested here.
+use crate::plain::join::Request;
+
+extern "C" {
+    fn wattleslate_check_font(font: *const u8, font_len: usize) -> u64;
+    fn wattleslate_check_control(file: *const u8, file_len: usize) -> u64;
+    fn wattleslate_draw(
+        font: *const u8,
+        font_len: usize,
+        control: *const u8,
+        control_len: usize,
+        text: *const u8,
+        text_len: usize,
+        scratch: *mut u8,
+        scratch_len: usize,
+        out: *mut u8,
+        out_len: usize,
+    ) -> u64;
+    fn wattleslate_join(
+        line: *const u8,
+        line_len: usize,
+        line_width: usize,
+        character: *const u8,
+        character_len: usize,
+        character_width: usize,
+        height: usize,
+        hardblank: u8,
+        layout: usize,
+        direction: usize,
+        out: *mut u8,
+        out_len: usize,
+    ) -> u64;
+}
+
+/// A refusal's number and place, or the value of a success.
+pub fn apart(answer: u64) -> Result<u32, (u32, u32)> {
+    match (answer >> 32) as u32 {
+        0 => Ok(answer as u32),
+        number => Err((number, answer as u32)),
+    }
+}
+
+pub fn check_font(font: &[u8]) -> u64 {
+    // SAFETY: the pointer and the length are those of a slice.
+    unsafe { wattleslate_check_font(font.as_ptr(), font.len()) }
+}
+
+pub fn check_control(file: &[u8]) -> u64 {
+    // SAFETY: as above.
+    unsafe { wattleslate_check_control(file.as_ptr(), file.len()) }
+}
+
+pub fn draw(font: &[u8], control: &[u8], text: &[u8], scratch: &mut [u8], out: &mut [u8]) -> u64 {
+    // SAFETY: as above; two `&mut` slices never lie in one another.
+    unsafe {
+        wattleslate_draw(
+            font.as_ptr(),
+            font.len(),
+            control.as_ptr(),
+            control.len(),
+            text.as_ptr(),
+            text.len(),
+            scratch.as_mut_ptr(),
+            scratch.len(),
+            out.as_mut_ptr(),
+            out.len(),
+        )
+    }
+}
+
+pub fn join(r: &Request, out: &mut [u8]) -> u64 {
+    // SAFETY: as above.
+    unsafe {
+        wattleslate_join(
+            r.line.as_ptr(),
+            r.line.len(),
+            r.line_width,
+            r.character.as_ptr(),
+            r.character.len(),
+            r.character_width,
+            r.height,
+            r.hardblank,
+            r.layout,
+            r.direction,
+            out.as_mut_ptr(),
+            out.len(),
+        )
+    }
+}

@@ -1,0 +1,6 @@
+//! Two implementations of the calls, the proved one by its static library and a plain one, and what is needed to compare them.
+pub mod calls;
+pub mod cases;
+pub mod inputs;
+pub mod plain;
+pub mod random;
