@@ -2,6 +2,8 @@
 -- Assumes nothing.
 use mathlib.Core.Path.{_≡_, refl, ap, ap₂}
 use mathlib.Core.Bool.{true≢false, false≢true}
+use Rattle.drawing.specs.declared.DrawAnswer.{DrawAnswer}
+use Rattle.drawing.specs.declared.DrawAnswer.the-variants as draw-is
 use Rattle.flc.specs.declared.ControlAnswer.{ControlAnswer}
 use Rattle.flc.specs.declared.ControlAnswer.the-variants as control-is
 use Rattle.wattleslate.specs.declared.JoinAnswer.{JoinAnswer}
@@ -17,12 +19,19 @@ use Rattle.wattleslate.specs.LookUpCall.{LookUpTold, lookUpTells}
 use Rattle.wattleslate.specs.RowCall.{RowTold, rowTells}
 use Rattle.wattleslate.specs.ControlCall.{ControlTold, controlTells}
 use Rattle.wattleslate.specs.MapCall.{MapTold, mapTells}
+use Rattle.wattleslate.specs.DrawCall.{DrawTold, drawTells}
 
 pub join-apart : (r s : JoinAnswer) → joinTells r ≡ joinTells s → r ≡ s
 join-apart (join-is.Joined o w) (join-is.Joined p v) e = ap₂ join-is.Joined (ap (λ (t : JoinTold). t .overlap) e) (ap (λ (t : JoinTold). t .width) e)
 join-apart (join-is.Joined o w) (join-is.Refused r) e = absurd (false≢true (ap (λ (t : JoinTold). t .refused) e))
 join-apart (join-is.Refused r) (join-is.Joined o w) e = absurd (true≢false (ap (λ (t : JoinTold). t .refused) e))
 join-apart (join-is.Refused r) (join-is.Refused s) e = ap (λ (t : JoinTold). join-is.Refused (record { number = t .number; place = t .place })) e
+
+pub draw-apart : (r s : DrawAnswer) → drawTells r ≡ drawTells s → r ≡ s
+draw-apart (draw-is.Drawn w) (draw-is.Drawn v) e = ap (λ (t : DrawTold). draw-is.Drawn (t .width)) e
+draw-apart (draw-is.Drawn w) (draw-is.Refused r) e = absurd (false≢true (ap (λ (t : DrawTold). t .refused) e))
+draw-apart (draw-is.Refused r) (draw-is.Drawn w) e = absurd (true≢false (ap (λ (t : DrawTold). t .refused) e))
+draw-apart (draw-is.Refused r) (draw-is.Refused s) e = ap (λ (t : DrawTold). draw-is.Refused (record { number = t .number; place = t .place })) e
 
 pub control-apart : (r s : ControlAnswer) → controlTells r ≡ controlTells s → r ≡ s
 control-apart (control-is.Read n k) (control-is.Read m j) e = ap₂ control-is.Read (ap (λ (t : ControlTold). t .commands) e) (ap (λ (t : ControlTold). t .stages) e)
