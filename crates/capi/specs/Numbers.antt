@@ -5,13 +5,14 @@ use mathlib.Core.Bool.{Bool, cond, _&&_}
 use mathlib.Core.List.{List}
 use lib.Dec.{leb, eqb}
 use Rattle.ground.specs.Area.{zeros}
+use Rattle.ground.specs.Limits.{maxFullLayout, maxDirection}
 use Rattle.ground.specs.Refusals.{badShape}
 use Rattle.subchars.specs.declared.Direction.{Direction}
 use Rattle.subchars.specs.declared.Direction.the-variants.{LeftToRight, RightToLeft}
 use Rattle.subchars.specs.declared.Mode.{Mode}
 use Rattle.subchars.specs.Layouts.{fullLayout}
-use Rattle.reader.specs.declared.FontStep.{FontStep}
-use Rattle.reader.specs.declared.FontStep.the-variants.{Read, Unread}
+use Rattle.reader.specs.declared.FontAnswer.{FontAnswer}
+use Rattle.reader.specs.declared.FontAnswer.the-variants.{Read, Refused}
 use Rattle.wattleslate.specs.ControlCall.{ControlTold}
 use Rattle.wattleslate.specs.DrawCall.{DrawTold}
 use Rattle.wattleslate.specs.JoinCall.{JoinTold, refusing, joinTold, joinArea}
@@ -29,9 +30,9 @@ abbrev pub telling : Bool → ℕ → ℕ → ℕ → ℕ
 telling refused number place value = cond refused (packed number place) (packed 0 value)
 
 -- The check of a font: its Height, and how many characters it has.
-abbrev pub fontNumber : FontStep → ℕ
+abbrev pub fontNumber : FontAnswer → ℕ
 fontNumber (Read h n) = packed 0 (paired (h .height) n)
-fontNumber (Unread r) = packed (r .number) (r .place)
+fontNumber (Refused r) = packed (r .number) (r .place)
 
 -- The check of a control file: the counts of stages and of commands.
 abbrev pub controlNumber : ControlTold → ℕ
@@ -51,7 +52,7 @@ directionBy n = cond (eqb n 1) RightToLeft LeftToRight
 
 -- "Full_Layout 0 to 32,767, Print_Direction 0 or 1." Other numbers are a join of bad shape.
 abbrev pub legal : ℕ → ℕ → Bool
-legal layout direction = leb layout 32767 && leb direction 1
+legal layout direction = leb layout maxFullLayout && leb direction maxDirection
 
 -- "Where Full_Layout stands, it decides alone."
 abbrev pub modeBy : ℕ → ℕ → ℕ → Mode

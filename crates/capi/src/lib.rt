@@ -4,7 +4,7 @@ use flc::ControlAnswer;
 use ground::limits;
 use ground::refusals;
 use ground::refusals::Refusal;
-use reader::FontStep;
+use reader::FontAnswer;
 use subchars::Direction;
 use subchars::Layout;
 use subchars::SubCharacter;
@@ -15,12 +15,10 @@ ghost use Rattle.ground.specs.Area.{zeros};
 ghost use Rattle.ground.specs.declared.refusals.Refusal.{Refusal};
 ghost use Rattle.font.specs.Font.{reading};
 ghost use Rattle.flc.specs.Control.{control};
-ghost use Rattle.reader.specs.Reader.{stepOf};
+ghost use Rattle.reader.specs.Reader.{answerOf};
 ghost use Rattle.wattleslate.specs.ControlCall.{controlTold};
 ghost use Rattle.wattleslate.specs.DrawCall.{drawTold, drawOutput};
 ghost use Rattle.capi.specs.Numbers.{packed, paired, directionBy, fontNumber, controlNumber, drawNumber, joinNumber, joinTaken, joinLeft};
-
-const MAX_FULL_LAYOUT: usize = 32767;
 
 // A refusal's number above a place, or 0 above a value.
 fn packed(number: usize, low: usize) -> u64
@@ -50,17 +48,17 @@ fn direction_of(n: usize) -> Direction
 // Reads a font, and answers its height and how many characters it has. Refusals 1 to 8.
 #[no_mangle]
 pub extern "C" fn wattleslate_check_font(font: &[u8]) -> u64
-    ensures answer { λ r. ⌜ r ≡ fontNumber (stepOf (reading (now (font .entry)))) ⌝ }
+    ensures answer { λ r. ⌜ r ≡ fontNumber (answerOf (reading (now (font .entry)))) ⌝ }
 {
-    let mut codes = [0i32; chars::MAX_CHARACTERS];
-    let mut starts = [0usize; chars::MAX_CHARACTERS];
-    let mut widths = [0usize; chars::MAX_CHARACTERS];
+    let mut codes = [0i32; limits::MAX_CHARACTERS];
+    let mut starts = [0usize; limits::MAX_CHARACTERS];
+    let mut widths = [0usize; limits::MAX_CHARACTERS];
     match reader::read_lists(font, &mut codes, &mut starts, &mut widths) {
-        FontStep::Read { header, count } => {
+        FontAnswer::Read { header, count } => {
             let height = header.height;
             packed(0, paired(height, count))
         }
-        FontStep::Unread(r) => packed(r.number, r.place),
+        FontAnswer::Refused(r) => packed(r.number, r.place),
     }
 }
 
@@ -118,7 +116,10 @@ pub extern "C" fn wattleslate_join(
     ensures answer { λ r. ⌜ r ≡ joinNumber (joinTaken layout direction hardblank height «line_width» (now (line .entry)) «character_width» (now (character .entry)) (length (now (out .entry)))) ⌝ }
     ensures area { λ r. ⌜ now (out .exit) ≡ joinLeft layout direction hardblank height «line_width» (now (line .entry)) «character_width» (now (character .entry)) (length (now (out .entry))) ⌝ }
 {
-    if !ground::both(layout <= MAX_FULL_LAYOUT, direction <= 1) {
+    if !ground::both(
+        layout <= limits::MAX_FULL_LAYOUT,
+        direction <= limits::MAX_DIRECTION,
+    ) {
         ground::zero_from(out, 0);
         return packed(refusals::BAD_SHAPE, 0);
     }

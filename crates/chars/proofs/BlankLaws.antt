@@ -8,7 +8,8 @@ use lib.ListN.{length, drop, getD}
 use Rattle.ground.specs.Runs.{all}
 use Rattle.ground.proofs.Tests.{and-right}
 use Rattle.ground.proofs.Runs.{all-more, all-not, all-end}
-use Rattle.lines.specs.Lines.{isLF, isCR, isEnd, TextLine, line, grown, linesAfter, linesFrom}
+use Rattle.ground.specs.Text.{isLF}
+use Rattle.lines.specs.Lines.{isCR, isEnd, TextLine, line, grown, linesAfter, linesFrom}
 use Rattle.lines.specs.Words.{isBlank}
 use Rattle.chars.specs.Chars.{blankLines}
 use Rattle.chars.specs.Steps.{isSpace, blankFrom}

@@ -11,6 +11,7 @@ use lib.ListN.{length, drop}
 use borrow.Author.Tests.{ltb-true}
 use Rattle.ground.specs.Refusals.{refusal, missingLine, badCodeTag, tooManyCharacters}
 use Rattle.ground.specs.declared.refusals.Refusal.{Refusal}
+use Rattle.ground.specs.Limits.{maxCharacters}
 use Rattle.subchars.specs.declared.Code.{Code}
 use Rattle.lines.specs.Lines.{TextLine}
 use Rattle.rows.specs.declared.Format.{Format}
@@ -21,7 +22,7 @@ use Rattle.chars.specs.declared.Entry.{Entry}
 use Rattle.chars.specs.declared.TagStep.{TagStep}
 use Rattle.chars.specs.declared.TagStep.the-variants.{Tag, BadTag}
 use Rattle.chars.specs.Codes.{code, tagOf}
-use Rattle.chars.specs.Chars.{maxCharacters, Ending, finished, stopped, Listing, ends, listed, characterThen, blankLines, tagged, taggedFrom, listing}
+use Rattle.chars.specs.Chars.{Ending, finished, stopped, Listing, ends, listed, characterThen, blankLines, tagged, taggedFrom, listing}
 
 -- A character stands on the lines: from its first row line on it has all its rows, each of its width.
 pub data Stands (f : Format) (e : Entry) : List TextLine → Type 0 where

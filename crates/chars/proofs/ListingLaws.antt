@@ -10,6 +10,7 @@ use lib.IntN.{pos}
 use lib.ListN.{length, drop, getD, take}
 use borrow.Author.Tests.{lt-ltb, le-ltb, ltb-true, ltb-false}
 use Rattle.ground.specs.Refusals.{refusal, badCodeTag, tooManyCharacters}
+use Rattle.ground.specs.Limits.{maxCharacters}
 use Rattle.subchars.specs.declared.Code.{Code}
 use Rattle.lines.specs.declared.Cursor.{Cursor}
 use Rattle.lines.specs.Lines.{TextLine, linesFrom, textAt, nextStart, after}
@@ -24,7 +25,7 @@ use Rattle.chars.specs.declared.TagAt.the-variants.{TagLine, NoTag}
 use Rattle.chars.specs.declared.CharNext.{CharNext}
 use Rattle.chars.specs.declared.CharNext.the-variants.{Listed, Complete, Stopped}
 use Rattle.chars.specs.Codes.{code, requiredCodes, requiredCount, tagOf}
-use Rattle.chars.specs.Chars.{maxCharacters, finished, stopped, Listing, ends, withEntry, entry, listed, characterThen, blankLines, tagged, taggedFrom, listing}
+use Rattle.chars.specs.Chars.{finished, stopped, Listing, ends, withEntry, entry, listed, characterThen, blankLines, tagged, taggedFrom, listing}
 use Rattle.chars.specs.Steps.{listedThen, listedAt, tagThen, tagAt, blankFrom, taggedThen, taggedAt, nextOf, nextAt}
 use Rattle.chars.proofs.CodeLaws.{still-required, none-required}
 use Rattle.chars.proofs.BlankLaws.{blank-from}

@@ -8,6 +8,7 @@ use lib.Dec.{ltb}
 use lib.IntN.{pos}
 use lib.ListN.{drop}
 use Rattle.ground.specs.Refusals.{refusal, tooManyCharacters}
+use Rattle.ground.specs.Limits.{maxCharacters}
 use Rattle.subchars.specs.declared.Code.{Code}
 use Rattle.lines.specs.Lines.{TextLine}
 use Rattle.rows.specs.declared.Format.{Format}
@@ -17,7 +18,7 @@ use Rattle.chars.specs.declared.Entry.{Entry}
 use Rattle.chars.specs.declared.TagStep.{TagStep}
 use Rattle.chars.specs.declared.TagStep.the-variants.{Tag, BadTag}
 use Rattle.chars.specs.Codes.{code, tagOf}
-use Rattle.chars.specs.Chars.{maxCharacters, finished, stopped, Listing, ends, listed, characterThen, blankLines, tagged, taggedFrom, listing}
+use Rattle.chars.specs.Chars.{finished, stopped, Listing, ends, listed, characterThen, blankLines, tagged, taggedFrom, listing}
 
 -- "In file order": a character has all its rows from its first row line on, and the next one stands somewhere behind them.
 pub data InOrder (f : Format) : List TextLine → List Entry → Type 0 where

@@ -12,6 +12,7 @@ use lib.ListN.{length, getD}
 use borrow.Author.Tests.{lt-ltb, le-ltb, ltb-true, ltb-false, eqb-true}
 use Rattle.ground.specs.Refusals.{refusal, badCodeTag, tooManyCharacters}
 use Rattle.ground.proofs.Tests.{clash}
+use Rattle.ground.specs.Limits.{maxCharacters}
 use Rattle.subchars.specs.declared.Code.{Code}
 use Rattle.lines.specs.Lines.{linesFrom, textAt, nextStart, after}
 use Rattle.lines.specs.Words.{firstWord}
@@ -27,7 +28,6 @@ use Rattle.chars.specs.declared.TagStep.the-variants.{Tag, BadTag}
 use Rattle.chars.specs.declared.CharNext.{CharNext}
 use Rattle.chars.specs.declared.CharNext.the-variants.{Listed, Complete, Stopped}
 use Rattle.chars.specs.Codes.{code, requiredCodes, requiredCount, sameNumber, sameCode, noCode, tagCode, tagOf}
-use Rattle.chars.specs.Chars.{maxCharacters}
 use Rattle.chars.specs.Steps.{listedThen, listedAt, tagThen, tagAt, blankFrom, taggedThen, taggedAt, nextOf, nextAt}
 use Rattle.chars.proofs.CodeLaws.{still-required, none-required}
 use Rattle.chars.proofs.BlankLaws.{blank-all}

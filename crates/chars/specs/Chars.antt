@@ -9,6 +9,7 @@ use lib.ListN.{drop}
 use Rattle.ground.specs.Runs.{all}
 use Rattle.ground.specs.Refusals.{refusal, missingLine, badCodeTag, tooManyCharacters}
 use Rattle.ground.specs.declared.refusals.Refusal.{Refusal}
+use Rattle.ground.specs.Limits.{maxCharacters}
 use Rattle.subchars.specs.declared.Code.{Code}
 use Rattle.lines.specs.Lines.{TextLine}
 use Rattle.lines.specs.Words.{isBlank}
@@ -18,10 +19,6 @@ use Rattle.chars.specs.declared.Entry.{Entry}
 use Rattle.chars.specs.declared.TagStep.{TagStep}
 use Rattle.chars.specs.declared.TagStep.the-variants.{Tag, BadTag}
 use Rattle.chars.specs.Codes.{code, tagOf}
-
--- "At most 512 characters a font."
-abbrev pub maxCharacters : ℕ
-maxCharacters = 512
 
 -- How the characters end: with the file, or with a refusal.
 pub data Ending : Type 0 where

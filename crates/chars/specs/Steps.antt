@@ -8,6 +8,7 @@ use lib.IntN.{pos}
 use lib.ListN.{length, drop}
 use Rattle.ground.specs.Runs.{all}
 use Rattle.ground.specs.Refusals.{refusal, badCodeTag, tooManyCharacters}
+use Rattle.ground.specs.Limits.{maxCharacters}
 use Rattle.subchars.specs.declared.Code.{Code}
 use Rattle.lines.specs.Lines.{isEnd, textAt, nextStart}
 use Rattle.lines.specs.Words.{isBlank}
@@ -22,7 +23,7 @@ use Rattle.chars.specs.declared.TagAt.the-variants.{TagLine, NoTag}
 use Rattle.chars.specs.declared.CharNext.{CharNext}
 use Rattle.chars.specs.declared.CharNext.the-variants.{Listed, Complete, Stopped}
 use Rattle.chars.specs.Codes.{code, requiredCodes, tagOf}
-use Rattle.chars.specs.Chars.{maxCharacters, entry}
+use Rattle.chars.specs.Chars.{entry}
 
 -- The character of a code, whose first row line is at a place.
 abbrev pub listedThen : CharStep → Code → ℕ → CharNext

@@ -1,4 +1,5 @@
 // The FIGcharacters of a font, one after another: the required codes, code tags, and the end of the file.
+use ground::limits;
 use ground::refusals;
 use ground::refusals::Refusal;
 use lines::Cursor;
@@ -40,9 +41,6 @@ pub enum CharNext {
     Complete,
     Stopped(Refusal),
 }
-
-// How many characters a font has at most.
-pub const MAX_CHARACTERS: usize = 512;
 
 // Of the required codes the first 95 are 32 to 126, and the others these.
 const REQUIRED: usize = 102;
@@ -149,7 +147,7 @@ fn tagged_at(f: Format, s: &[u8], at: usize, n: usize) -> CharNext
     }
     match tag_at(s, at) {
         TagAt::TagLine { code, next } => {
-            if n < MAX_CHARACTERS {
+            if n < limits::MAX_CHARACTERS {
                 return listed_at(f, s, next, code);
             }
             CharNext::Stopped(Refusal {

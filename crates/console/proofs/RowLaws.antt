@@ -10,7 +10,7 @@ use lib.Dec.{ltb}
 use lib.IntN.{ℤ}
 use lib.ListN.{length}
 use borrow.Author.Tests.{ltb-false}
-use Rattle.ground.specs.Limits.{maxLineWidth}
+use Rattle.ground.specs.Limits.{maxLineWidth, maxText}
 use Rattle.ground.specs.Refusals.{lineTooWide, areaTooSmall}
 use Rattle.ground.specs.declared.refusals.Refusal.{Refusal}
 use Rattle.join.specs.Join.{Figure}
@@ -20,7 +20,7 @@ use Rattle.drawing.specs.declared.Files.{Files}
 use Rattle.drawing.specs.declared.Files.the-variants as files
 use Rattle.drawing.specs.declared.DrawAnswer.{DrawAnswer}
 use Rattle.drawing.specs.declared.DrawAnswer.the-variants.{Drawn, Refused}
-use Rattle.drawing.specs.Drawing.{maxText, Lined, unlined, linedOf, answering, answerOf, PutOut}
+use Rattle.drawing.specs.Drawing.{Lined, unlined, linedOf, answering, answerOf, PutOut}
 use Rattle.drawing.specs.Held.{FilesHeld}
 use Rattle.drawing.proofs.CharacterLaws.{few-rows}
 use Rattle.drawing.proofs.OutputLaws.{text-long, text-lined}

@@ -172,7 +172,7 @@ pub(crate) fn print_input(
     requires { ⌜ ((control : List ℕ) × FilesHeld (now font) control files (now codes) (now starts) (now widths) (now places) (now stages) (now firsts) (now lasts) (now news)) ⌝ }
 {
     let mut part = [0u8; 2048];
-    let mut line = [0u8; 1025];
+    let mut line = [0u8; cutting::MOST_KEPT];
     let mut out = [0u8; 2048];
     let mut area = [0u8; 32000];
     let held = print_reads(

@@ -4,9 +4,9 @@ use mathlib.Core.Path.{_≡_, refl, _∙_, ap}
 use mathlib.Core.Bool.{Bool, true, false, cond, not, _&&_}
 use mathlib.Core.List.{List, [], _∷_, _++_, append-assoc}
 use Prim.Native.Nat.{ℕ}
-use Rattle.ground.specs.Text.{byte}
+use Rattle.ground.specs.Text.{byte, isLF}
 use Rattle.ground.specs.Runs.{all}
-use Rattle.cutting.specs.Cut.{isLF, notLF, last, before, cut}
+use Rattle.cutting.specs.Cut.{notLF, last, before, cut}
 
 pub before-none : (ls : List (List ℕ)) → before [] ls ≡ ls
 before-none [] = refl

@@ -7,7 +7,8 @@ use Prim.Native.Nat.{ℕ, zero, suc, _≤_}
 use native.Mathlib.Omega.{arith}
 use lib.ListN.{length, take, length-take}
 use lib.Seq.{take-all, take-take}
-use Rattle.cutting.specs.Cut.{isLF, last, before, cut}
+use Rattle.ground.specs.Text.{isLF}
+use Rattle.cutting.specs.Cut.{last, before, cut}
 use Rattle.cutting.specs.Parts.{mostKept, clipped, ended, begun, cutParts, joined}
 use Rattle.cutting.proofs.CutLaws.{before-none, before-more}
 

@@ -9,9 +9,9 @@ use native.Mathlib.Numerals.{add-one}
 use lib.ListN.{length, take, drop, getD, set, length-take}
 use lib.Seq.{take-all, take-suc-set, drop-cons, take-append-le, length-take-le}
 use borrow.Author.Tests.{eq-eqb, ne-eqb}
-use Rattle.ground.specs.Text.{byte}
+use Rattle.ground.specs.Text.{byte, isLF}
 use Rattle.ground.specs.Runs.{run}
-use Rattle.cutting.specs.Cut.{isLF, notLF}
+use Rattle.cutting.specs.Cut.{notLF}
 use Rattle.cutting.specs.Parts.{mostKept, clipped, ended, begun, Steps}
 use Rattle.cutting.specs.declared.Step.{Step}
 use Rattle.cutting.specs.declared.Step.the-variants.{Ended, Begun}
@@ -59,7 +59,7 @@ module _ (held : ℕ) (line₀ line part : List ℕ) (end n : ℕ) (few : held �
   pub answers-ended : end < length part → Steps (take held line₀) part line (Ended n (end + 1))
   answers-ended h =
       let e = step-ended part (take held line₀) begun-few (rw found at h) in
-      (kept .0, omega arith, omega arith, rw (kept .1, found, add-one) (e .0), rw (found, add-one) (e .1))
+      (kept .0, omega arith, omega arith, rw (kept .1, found, add-one (run notLF part)) (e .0), rw (found, add-one (run notLF part)) (e .1))
 
   pub answers-begun : length part ≤ end → Steps (take held line₀) part line (Begun n)
   answers-begun h =

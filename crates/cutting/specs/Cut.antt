@@ -3,11 +3,7 @@
 use Prim.Native.Nat.{ℕ}
 use mathlib.Core.Bool.{Bool, cond, not}
 use mathlib.Core.List.{List, [], _∷_, _++_}
-use lib.Dec.{eqb}
-use Rattle.ground.specs.Text.{byte}
-
-abbrev pub isLF : ℕ → Bool
-isLF x = eqb x (byte "\n")
+use Rattle.ground.specs.Text.{isLF}
 
 unfoldable pub notLF : ℕ → Bool
 notLF x = not (isLF x)

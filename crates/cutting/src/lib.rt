@@ -1,4 +1,5 @@
 // Cuts input that arrives in parts into lines that end at LF, so that how a read splits the input does not matter.
+use ground::limits;
 ghost use mathlib.Core.Path.{_≡_};
 ghost use mathlib.Core.List.{_++_};
 ghost use Prim.Native.Nat.{_≤_};
@@ -6,6 +7,9 @@ ghost use lib.ListN.{length, take};
 ghost use Rattle.ground.specs.Runs.{run};
 ghost use Rattle.cutting.specs.Cut.{notLF};
 ghost use Rattle.cutting.specs.Parts.{clipped, mostKept, Steps};
+
+// Of a line one byte more is kept than a text may have, so that a line that is too long stays too long.
+pub const MOST_KEPT: usize = limits::MAX_TEXT + 1;
 
 // What is found in a part. `held` counts the bytes that are kept of a line.
 pub enum Step {
@@ -29,7 +33,7 @@ fn line_end(part: &[u8]) -> usize
     i
 }
 
-// Adds the part's bytes before `end` to a line of which `held` are kept; those past 1,025 are dropped. Answers how many are kept.
+// Adds the part's bytes before `end` to a line of which `held` are kept; those past the most are dropped. Answers how many are kept.
 fn keep(line: &mut [u8], held: usize, part: &[u8], end: usize) -> usize
     requires { ⌜ (held ≤ mostKept) × (mostKept ≤ length (now line)) × (end ≤ length (now part)) ⌝ }
     ensures { λ r. ⌜ (r ≤ mostKept) × (take r (now (line .exit)) ≡ clipped (take held (now (line .entry)) ++ take end (now (part .entry)))) ⌝ }
@@ -37,7 +41,7 @@ fn keep(line: &mut [u8], held: usize, part: &[u8], end: usize) -> usize
     let mut n = held;
     let mut i: usize = 0;
     while i < end {
-        if n == 1025 {
+        if n == MOST_KEPT {
             return n;
         }
         line[n] = part[i];

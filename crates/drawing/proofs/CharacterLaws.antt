@@ -10,7 +10,8 @@ use Rattle.ground.specs.Limits.{maxHeight, maxLineWidth}
 use Rattle.subchars.specs.declared.Code.{Code}
 use Rattle.subchars.specs.declared.Mode.{Mode}
 use Rattle.join.specs.Join.{Figure}
-use Rattle.join.proofs.Likeness.{Like, like-same, like-trans}
+use Rattle.join.proofs.Likeness.{like-same, like-trans}
+use Rattle.join.specs.Writing.{Like}
 use Rattle.figure.specs.Line.{attached}
 use Rattle.figure.specs.Scratch.{scratchLine, rowsAt, RowsIn, Holds}
 use Rattle.figure.proofs.Folding.{attached-like}

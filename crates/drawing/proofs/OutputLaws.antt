@@ -10,7 +10,7 @@ use lib.Dec.{ltb}
 use lib.ListN.{length}
 use borrow.Author.Tests.{lt-ltb, le-ltb}
 use Rattle.ground.specs.Area.{zeros, padded}
-use Rattle.ground.specs.Limits.{maxLineWidth}
+use Rattle.ground.specs.Limits.{maxLineWidth, maxText}
 use Rattle.ground.specs.Refusals.{refusal, textTooLong, lineTooWide}
 use Rattle.ground.specs.declared.refusals.Refusal.{Refusal}
 use Rattle.subchars.specs.declared.Mode.{Mode}
@@ -26,7 +26,7 @@ use Rattle.flc.specs.declared.Command.{Command}
 use Rattle.flc.specs.Control as flc
 use Rattle.drawing.specs.declared.DrawAnswer.{DrawAnswer}
 use Rattle.drawing.specs.declared.DrawAnswer.the-variants.{Refused}
-use Rattle.drawing.specs.Drawing.{maxText, modeOf, lineOf, lined, unlined, linedBy, linedOf, answering, answerOf, bytesOf, PutOut}
+use Rattle.drawing.specs.Drawing.{modeOf, lineOf, lined, unlined, linedBy, linedOf, answering, answerOf, bytesOf, PutOut}
 use Rattle.drawing.specs.Steps.{Reached}
 
 -- A refusal leaves zeros.

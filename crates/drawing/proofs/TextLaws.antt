@@ -11,7 +11,8 @@ use lib.Seq.{drop-cons}
 use Rattle.ground.specs.Limits.{maxLineWidth}
 use Rattle.subchars.specs.declared.Code.{Code}
 use Rattle.join.specs.Join.{Figure}
-use Rattle.join.proofs.Likeness.{Like, like-trans}
+use Rattle.join.proofs.Likeness.{like-trans}
+use Rattle.join.specs.Writing.{Like}
 use Rattle.figure.specs.Line.{empty, lineFrom}
 use Rattle.figure.specs.Scratch.{scratchLine}
 use Rattle.figure.proofs.Folding.{from-like, grows}

@@ -11,6 +11,7 @@ use lib.ListN.{length, getD}
 use Rattle.ground.specs.Area.{padded}
 use Rattle.ground.specs.Refusals.{refusal, textTooLong}
 use Rattle.ground.specs.declared.refusals.Refusal.{Refusal}
+use Rattle.ground.specs.Limits.{maxText}
 use Rattle.subchars.specs.declared.Code.{Code}
 use Rattle.subchars.specs.declared.Direction.{Direction}
 use Rattle.subchars.specs.declared.Direction.the-variants.{LeftToRight, RightToLeft}
@@ -83,10 +84,6 @@ unfoldable pub traceOf : List ℕ → Header → List Entry → List Command →
 traceOf s h characters commands stages text =
     let es = entriesDrawn characters commands stages text in
     record { characters = es; overlaps = overlapsFrom (modeOf h) (h .height) empty (map (characterOf s) es) }
-
--- "Text 1,024 bytes."
-abbrev pub maxText : ℕ
-maxText = 1024
 
 -- "Drawing: .. the font's, the control file's, 15, 16, then 9 for the output." A line that is to be put out, or one of the first three.
 pub data Lined : Type 0 where

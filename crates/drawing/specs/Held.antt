@@ -8,13 +8,13 @@ use lib.ListN.{length, take}
 use Rattle.header.specs.declared.Header.{Header}
 use Rattle.chars.specs.declared.Entry.{Entry}
 use Rattle.font.specs.Font.{says, refuses, reading}
+use Rattle.index.specs.Index.{Room, Lists}
 use Rattle.index.specs.Latest.{Latest}
-use Rattle.reader.specs.declared.FontStep.{FontStep}
-use Rattle.reader.specs.declared.FontStep.the-variants as step
-use Rattle.reader.specs.Reader.{Lists, Counted}
+use Rattle.reader.specs.declared.FontAnswer.{FontAnswer}
+use Rattle.reader.specs.declared.FontAnswer.the-variants as step
 use Rattle.flc.specs.declared.ControlAnswer.{ControlAnswer}
 use Rattle.flc.specs.declared.ControlAnswer.the-variants as answer
-use Rattle.flc.specs.Mapping.{ControlHeld}
+use Rattle.flc.specs.Passing.{ControlHeld}
 use Rattle.drawing.specs.declared.Files.{Files}
 use Rattle.drawing.specs.declared.Files.the-variants.{Read, Refused}
 use Rattle.drawing.specs.Drawing.{unlined, linedOf}
@@ -24,20 +24,20 @@ pub record FontHeld (s : List ℕ) (h : Header) (n : ℕ) (codes : List ℤ) (st
   pub characters : List Entry
   pub said : reading s ≡ says h characters
   pub count : n ≡ length characters
-  pub long : Counted n codes starts widths
+  pub long : Room n codes starts widths
   pub lists : Lists characters codes starts widths
   pub latest : Latest (take n codes) places
 
 -- What reading it answered, and the lists.
-abbrev pub FontTold : List ℕ → FontStep → List ℤ → List ℕ → List ℕ → List ℕ → Type 0
-FontTold s (step.Read h n) codes starts widths places = FontHeld s h n codes starts widths places
-FontTold s (step.Unread r) codes starts widths places = reading s ≡ refuses r
+abbrev pub FontHeldBy : List ℕ → FontAnswer → List ℤ → List ℕ → List ℕ → List ℕ → Type 0
+FontHeldBy s (step.Read h n) codes starts widths places = FontHeld s h n codes starts widths places
+FontHeldBy s (step.Refused r) codes starts widths places = reading s ≡ refuses r
 
 -- "The font's, the control file's": what both answers come to.
-abbrev pub filesOf : FontStep → ControlAnswer → Files
+abbrev pub filesOf : FontAnswer → ControlAnswer → Files
 filesOf (step.Read h n) (answer.Read m stages) = Read h n m
 filesOf (step.Read h n) (answer.Refused r) = Refused r
-filesOf (step.Unread r) control = Refused r
+filesOf (step.Refused r) control = Refused r
 
 -- Both files, or the refusal that every text then has.
 abbrev pub FilesHeld : List ℕ → List ℕ → Files → List ℤ → List ℕ → List ℕ → List ℕ → List ℕ → List ℤ → List ℤ → List ℤ → Type 0

@@ -6,7 +6,7 @@ use mathlib.Core.List.{List}
 use lib.ListN.{length, getD}
 use Rattle.ground.specs.Limits.{maxLineWidth}
 use Rattle.join.specs.Join.{Figure}
-use Rattle.join.proofs.Likeness.{Like}
+use Rattle.join.specs.Writing.{Like}
 use Rattle.figure.specs.Line.{attached}
 use Rattle.figure.specs.Scratch.{scratchLine}
 use Rattle.lines.specs.Lines.{lineEnd, after}

@@ -11,7 +11,7 @@ use header::Header;
 use index::latest;
 use lines::Cursor;
 use lines::LineStep;
-use reader::FontStep;
+use reader::FontAnswer;
 use reader::Use;
 use subchars::Code;
 use subchars::Direction;
@@ -22,26 +22,20 @@ ghost use mathlib.Core.List.{List};
 ghost use Prim.Native.Nat.{ℕ, _+_, _≤_};
 ghost use lib.IntN.{pos};
 ghost use lib.ListN.{length};
-ghost use Rattle.ground.specs.Limits.{maxCommands};
+ghost use Rattle.ground.specs.Limits.{maxCharacters, maxCommands};
 ghost use Rattle.lines.specs.Lines.{nextStart};
 ghost use Rattle.chars.specs.Codes.{code};
 ghost use Rattle.font.specs.Font.{reading};
 ghost use Rattle.index.specs.Index.{Room};
 ghost use Rattle.reader.specs.Reader.{entriesOf, used};
-ghost use Rattle.flc.specs.Lists.{Room as CommandRoom};
-ghost use Rattle.flc.specs.Mapping.{ControlHeld};
 ghost use Rattle.join.specs.Join.{Figure};
 ghost use Rattle.join.specs.Writing.{RowAfterRow};
 ghost use Rattle.figure.specs.Scratch.{scratchLine};
+ghost use Rattle.flc.specs.Passing.{ControlHeld};
+ghost use Rattle.flc.specs.Filling.{Room as CommandRoom};
 ghost use Rattle.drawing.specs.Drawing.{directionOf, modeOf, lineOf, Lined, linedOf, PutOut};
-ghost use Rattle.drawing.specs.Held.{FontHeld, FontTold, filesOf, FilesHeld};
+ghost use Rattle.drawing.specs.Held.{FontHeld, FontHeldBy, filesOf, FilesHeld};
 ghost use Rattle.drawing.specs.Steps.{Standing, RowPlaces, withCharacter, Reached};
-
-// "Text 1,024 bytes."
-pub const MAX_TEXT: usize = 1024;
-
-// "Scratch under 32,000 bytes" is too small.
-pub const SCRATCH: usize = 32000;
 
 // What reading both files gave: the font's header and how many characters and commands the lists hold; or the refusal of one of the files.
 pub enum Files {
@@ -276,7 +270,7 @@ fn draw_text(
     requires { ⌜ 32000 ≤ length (now area) ⌝ }
     ensures { λ a. ⌜ ((control : List ℕ) → ControlHeld control commands (now (stages .entry)) (now (firsts .entry)) (now (lasts .entry)) (now (news .entry)) → PutOut (linedOf (now (font .entry)) control (now (text .entry))) (length (now (out .entry))) a (now (out .exit))) ⌝ }
 {
-    if MAX_TEXT < text.len() {
+    if limits::MAX_TEXT < text.len() {
         return refuse(
             Refusal {
                 number: refusals::TEXT_TOO_LONG,
@@ -359,26 +353,26 @@ fn read_font(
     starts: &mut [usize],
     widths: &mut [usize],
     places: &mut [usize],
-) -> FontStep
-    requires { ⌜ Room (now codes) (now starts) (now widths) ⌝ }
+) -> FontAnswer
+    requires { ⌜ Room maxCharacters (now codes) (now starts) (now widths) ⌝ }
     requires { ⌜ length (now places) ≡ 256 ⌝ }
-    ensures { λ r. ⌜ FontTold (now (font .entry)) r (now (codes .exit)) (now (starts .exit)) (now (widths .exit)) (now (places .exit)) ⌝ }
+    ensures { λ r. ⌜ FontHeldBy (now (font .entry)) r (now (codes .exit)) (now (starts .exit)) (now (widths .exit)) (now (places .exit)) ⌝ }
 {
     match reader::read_lists(font, codes, starts, widths) {
-        FontStep::Read { header, count } => {
+        FontAnswer::Read { header, count } => {
             latest::find_latest(&codes[..count], places);
-            FontStep::Read { header, count }
+            FontAnswer::Read { header, count }
         }
-        FontStep::Unread(r) => FontStep::Unread(r),
+        FontAnswer::Refused(r) => FontAnswer::Refused(r),
     }
 }
 
 // Both answers as one; the font's refusal comes first.
-fn files_of(font: FontStep, control: ControlAnswer) -> Files
+fn files_of(font: FontAnswer, control: ControlAnswer) -> Files
     ensures { λ r. ⌜ r ≡ filesOf font control ⌝ }
 {
     match font {
-        FontStep::Read { header, count } => match control {
+        FontAnswer::Read { header, count } => match control {
             ControlAnswer::Read {
                 commands,
                 stages: _,
@@ -389,7 +383,7 @@ fn files_of(font: FontStep, control: ControlAnswer) -> Files
             },
             ControlAnswer::Refused(r) => Files::Refused(r),
         },
-        FontStep::Unread(r) => Files::Refused(r),
+        FontAnswer::Refused(r) => Files::Refused(r),
     }
 }
 
@@ -406,7 +400,7 @@ pub fn read_files(
     lasts: &mut [i32],
     news: &mut [i32],
 ) -> Files
-    requires { ⌜ Room (now codes) (now starts) (now widths) ⌝ }
+    requires { ⌜ Room maxCharacters (now codes) (now starts) (now widths) ⌝ }
     requires { ⌜ length (now places) ≡ 256 ⌝ }
     requires { ⌜ CommandRoom maxCommands (now stages) (now firsts) (now lasts) (now news) ⌝ }
     ensures { λ r. ⌜ FilesHeld (now (font .entry)) (now (control .entry)) r (now (codes .exit)) (now (starts .exit)) (now (widths .exit)) (now (places .exit)) (now (stages .exit)) (now (firsts .exit)) (now (lasts .exit)) (now (news .exit)) ⌝ }
@@ -427,9 +421,9 @@ pub fn draw_once(
     requires { ⌜ 32000 ≤ length (now area) ⌝ }
     ensures { λ a. ⌜ PutOut (linedOf (now (font .entry)) (now (control .entry)) (now (text .entry))) (length (now (out .entry))) a (now (out .exit)) ⌝ }
 {
-    let mut codes = [0i32; chars::MAX_CHARACTERS];
-    let mut starts = [0usize; chars::MAX_CHARACTERS];
-    let mut widths = [0usize; chars::MAX_CHARACTERS];
+    let mut codes = [0i32; limits::MAX_CHARACTERS];
+    let mut starts = [0usize; limits::MAX_CHARACTERS];
+    let mut widths = [0usize; limits::MAX_CHARACTERS];
     let mut places = [0usize; 256];
     let mut stages = [0usize; limits::MAX_COMMANDS];
     let mut firsts = [0i32; limits::MAX_COMMANDS];

@@ -12,20 +12,20 @@ use lib.ListN.{length, take, set, getD, replicate, length-append, length-replica
 use lib.Seq.{getD-take, take-length}
 use borrow.Author.Tests.{ltb-true, ltb-false, lt-ltb, le-ltb}
 use Rattle.ground.specs.Refusals.{refusal, areaTooSmall}
+use Rattle.ground.specs.Limits.{maxCharacters}
 use Rattle.header.specs.declared.Header.{Header}
 use Rattle.chars.specs.declared.Entry.{Entry}
 use Rattle.chars.specs.Codes.{code}
-use Rattle.chars.specs.Chars.{maxCharacters, entry}
+use Rattle.chars.specs.Chars.{entry}
 use Rattle.font.specs.Font.{Reading, says, refuses, reading}
 use Rattle.font.proofs.ReadingLaws.{font-read}
-use Rattle.index.specs.Index.{codeOf, startOf, widthOf}
-use Rattle.reader.specs.declared.FontStep.{FontStep}
-use Rattle.reader.specs.declared.FontStep.the-variants as step-is
-use Rattle.reader.specs.Reader.{Lists, ReadInto, entriesOf}
+use Rattle.index.specs.Index.{codeOf, startOf, widthOf, Lists}
+use Rattle.reader.specs.declared.FontAnswer.{FontAnswer}
+use Rattle.reader.specs.declared.FontAnswer.the-variants.{Read}
+use Rattle.reader.specs.Reader.{ReadInto, answerOf, entriesOf}
 use Rattle.reader.proofs.ReadLaws.{read-says}
-use Rattle.entries.specs.declared.FontAnswer.the-variants.{Read}
 use Rattle.entries.specs.declared.listing.Listed.{Listed}
-use Rattle.entries.specs.Filling.{fontReading, zeroEntry, withZeros, indexOf, answerOf}
+use Rattle.entries.specs.Filling.{fontReading, zeroEntry, withZeros, indexOf}
 use Rattle.entries.specs.Steps.{listedOf}
 use Rattle.entries.proofs.Moved.{moved, moved-next, zero-behind, zeros-left}
 
@@ -51,11 +51,11 @@ module _ (es : List Entry) (codes : List ℤ) (starts widths : List ℕ) (l : Li
   listed-all a n h q = q ∙ (λ j. take-length es j ++ zeros-left zeroEntry n (length es) h j)
 
 -- What an answer and the entries say together.
-module _ (m : Reading) (codes : List ℤ) (starts widths : List ℕ) (r : FontStep) (i : ReadInto m r codes starts widths) where
-  pub read-few : (h : Header) (n : ℕ) → r ≡ step-is.Read h n → n ≤ maxCharacters
+module _ (m : Reading) (codes : List ℤ) (starts widths : List ℕ) (r : FontAnswer) (i : ReadInto m r codes starts widths) where
+  pub read-few : (h : Header) (n : ℕ) → r ≡ Read h n → n ≤ maxCharacters
   read-few h n p = omega (arith, read-says m h n (sym p ∙ i .answer) .count, i .lists .few)
 
-  pub read-listed : (h : Header) (n : ℕ) (es : List Entry) → r ≡ step-is.Read h n →
+  pub read-listed : (h : Header) (n : ℕ) (es : List Entry) → r ≡ Read h n →
       ((l : List Entry) → n ≡ length l → Lists l codes starts widths → es ≡ withZeros l 513) →
       _≡_ {A = Listed} (record { answer = Read h n; entries = es }) (listedOf m)
   unfolding indexOf

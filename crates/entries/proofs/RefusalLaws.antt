@@ -10,7 +10,7 @@ use lib.Dec.{ltb}
 use borrow.Author.Tests.{ltb-true, ltb-false}
 use Rattle.ground.specs.Refusals.{refusal, areaTooSmall}
 use Rattle.ground.specs.declared.refusals.Refusal.{Refusal}
-use Rattle.chars.specs.Chars.{maxCharacters}
+use Rattle.ground.specs.Limits.{maxCharacters}
 use Rattle.font.specs.Font.{Reading, says, refuses, reading}
 use Rattle.font.proofs.ReadingLaws.{font-refusal}
 use Rattle.entries.specs.Filling.{fontReading}

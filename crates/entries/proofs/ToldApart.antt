@@ -4,8 +4,8 @@ use mathlib.Core.Path.{_≡_, refl, ap, ap₂}
 use mathlib.Core.Bool.{true≢false, false≢true}
 use Rattle.reader.specs.declared.Use.{Use}
 use Rattle.reader.specs.declared.Use.the-variants.{Used, Nothing}
-use Rattle.entries.specs.declared.FontAnswer.{FontAnswer}
-use Rattle.entries.specs.declared.FontAnswer.the-variants.{Read, Refused}
+use Rattle.reader.specs.declared.FontAnswer.{FontAnswer}
+use Rattle.reader.specs.declared.FontAnswer.the-variants.{Read, Refused}
 use Rattle.entries.specs.Filling.{told, FontTold, fontTells}
 use Rattle.entries.specs.Finding.{EntryTold, entryTells}
 

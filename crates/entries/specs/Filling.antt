@@ -7,14 +7,15 @@ use lib.Dec.{ltb}
 use lib.IntN.{pos}
 use lib.ListN.{length, replicate}
 use Rattle.ground.specs.Refusals.{refusal, areaTooSmall}
+use Rattle.ground.specs.Limits.{maxCharacters}
 use Rattle.header.specs.declared.Header.{Header}
 use Rattle.chars.specs.declared.Entry.{Entry}
 use Rattle.chars.specs.Codes.{code}
-use Rattle.chars.specs.Chars.{maxCharacters, entry}
-use Rattle.font.specs.Font.{Reading, says, refuses, reading}
-use Rattle.reader.specs.Reader.{entriesOf}
-use Rattle.entries.specs.declared.FontAnswer.{FontAnswer}
-use Rattle.entries.specs.declared.FontAnswer.the-variants.{Read, Refused}
+use Rattle.chars.specs.Chars.{entry}
+use Rattle.font.specs.Font.{Reading, refuses, reading}
+use Rattle.reader.specs.declared.FontAnswer.{FontAnswer}
+use Rattle.reader.specs.declared.FontAnswer.the-variants.{Read, Refused}
+use Rattle.reader.specs.Reader.{answerOf, entriesOf}
 
 -- "Reading a font: 9 (index under 512 entries), 1, 2, ..": a font, read into an index of so many entries.
 unfoldable pub fontReading : ℕ → List ℕ → Reading
@@ -31,11 +32,6 @@ withZeros es room = es ++ replicate (room - length es) zeroEntry
 -- What the index holds: the entries "in file order". A refused font has none: "it fills every lent writable area with zeros."
 unfoldable pub indexOf : Reading → ℕ → List Entry
 indexOf m room = withZeros (entriesOf m) room
-
--- "And the answer gives how many."
-abbrev pub answerOf : Reading → FontAnswer
-answerOf (says h es) = Read h (length es)
-answerOf (refuses r) = Refused r
 
 -- The header that an answer tells, with the layout in it; a refusal tells none.
 pub data HeaderTold : Type 0 where

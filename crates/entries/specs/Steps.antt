@@ -8,8 +8,9 @@ use Rattle.chars.specs.Codes.{code, sameCode}
 use Rattle.font.specs.Font.{Reading}
 use Rattle.reader.specs.declared.Use.{Use}
 use Rattle.reader.specs.declared.Use.the-variants.{Used, Nothing}
+use Rattle.reader.specs.Reader.{answerOf}
 use Rattle.entries.specs.declared.listing.Listed.{Listed}
-use Rattle.entries.specs.Filling.{indexOf, answerOf}
+use Rattle.entries.specs.Filling.{indexOf}
 
 -- The answer, and an index of one entry more than a font can have characters.
 abbrev pub listedOf : Reading → Listed

@@ -4,20 +4,13 @@ mod listing;
 mod seen;
 
 use chars::Entry;
-use ground::refusals::Refusal;
-use header::Header;
+use reader::FontAnswer;
 use reader::Use;
 use subchars::Code;
 ghost use mathlib.Core.Path.{_≡_};
 ghost use lib.ListN.{length};
 ghost use Rattle.entries.specs.Filling.{fontReading, indexOf, fontTells, fontTold};
 ghost use Rattle.entries.specs.Finding.{entryTells, findTold};
-
-// What reading a font answers: its header, with the layout, and how many characters it has; or a refusal.
-pub enum FontAnswer {
-    Read { header: Header, count: usize },
-    Refused(Refusal),
-}
 
 // Reads a font into an index of 512 entries or more: its characters in file order, with zeros behind. A refusal (9, then 1 to 8) leaves the
 // index all zeros.

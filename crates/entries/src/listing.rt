@@ -1,23 +1,23 @@
 // A font's characters as an array of entries, with zeros behind them.
-use crate::FontAnswer;
 use chars::Entry;
+use ground::limits;
 use ground::refusals;
 use ground::refusals::Refusal;
-use reader::FontStep;
+use reader::FontAnswer;
 use subchars::Code;
 ghost use mathlib.Core.Path.{_≡_};
 ghost use mathlib.Core.List.{List};
 ghost use Prim.Native.Nat.{_≤_};
 ghost use lib.ListN.{length};
+ghost use Rattle.ground.specs.Limits.{maxCharacters};
 ghost use Rattle.chars.specs.declared.Entry.{Entry};
-ghost use Rattle.chars.specs.Chars.{maxCharacters};
 ghost use Rattle.font.specs.Font.{refuses};
-ghost use Rattle.reader.specs.Reader.{Lists, Counted};
+ghost use Rattle.index.specs.Index.{Room, Lists};
 ghost use Rattle.entries.specs.Filling.{fontReading, withZeros};
 ghost use Rattle.entries.specs.Steps.{listedOf};
 
 // The last place of the array. No font has a character there: its zeros stand for all that lie behind.
-pub const LAST: usize = chars::MAX_CHARACTERS;
+pub const LAST: usize = limits::MAX_CHARACTERS;
 
 const ZEROS: [Entry; LAST + 1] = [Entry {
     code: Code(0),
@@ -38,7 +38,7 @@ fn list_entries(
     widths: &[usize],
     count: usize,
 ) -> [Entry; LAST + 1]
-    requires { ⌜ Counted count (now codes) (now starts) (now widths) × count ≤ maxCharacters ⌝ }
+    requires { ⌜ Room count (now codes) (now starts) (now widths) × count ≤ maxCharacters ⌝ }
     ensures { λ r. ⌜ ((es : List Entry) → count ≡ length es → Lists es (now (codes .entry)) (now (starts .entry)) (now (widths .entry)) → r ≡ withZeros es 513) ⌝ }
 {
     let mut entries = ZEROS;
@@ -67,20 +67,20 @@ fn refuse(r: Refusal) -> Listed
 pub fn list_font(font: &[u8], room: usize) -> Listed
     ensures { λ l. ⌜ l ≡ listedOf (fontReading room (now (font .entry))) ⌝ }
 {
-    if room < chars::MAX_CHARACTERS {
+    if room < limits::MAX_CHARACTERS {
         return refuse(Refusal {
             number: refusals::AREA_TOO_SMALL,
             place: 0,
         });
     }
-    let mut codes = [0i32; chars::MAX_CHARACTERS];
-    let mut starts = [0usize; chars::MAX_CHARACTERS];
-    let mut widths = [0usize; chars::MAX_CHARACTERS];
+    let mut codes = [0i32; limits::MAX_CHARACTERS];
+    let mut starts = [0usize; limits::MAX_CHARACTERS];
+    let mut widths = [0usize; limits::MAX_CHARACTERS];
     match reader::read_lists(font, &mut codes, &mut starts, &mut widths) {
-        FontStep::Read { header, count } => Listed {
+        FontAnswer::Read { header, count } => Listed {
             answer: FontAnswer::Read { header, count },
             entries: list_entries(&codes, &starts, &widths, count),
         },
-        FontStep::Unread(r) => refuse(r),
+        FontAnswer::Refused(r) => refuse(r),
     }
 }

@@ -8,7 +8,7 @@ use crate::printing::signed;
 use crate::printing::text;
 use header::Given;
 use header::Header;
-use reader::FontStep;
+use reader::FontAnswer;
 use subchars::Layout;
 use subchars::Smushing;
 use wattleslate::LookUpAnswer;
@@ -65,8 +65,8 @@ pub(crate) fn show_font(font: &[u8]) {
     let mut starts = [0usize; 512];
     let mut widths = [0usize; 512];
     match reader::read_lists(font, &mut codes, &mut starts, &mut widths) {
-        FontStep::Read { header, count } => says(count, header),
-        FontStep::Unread(r) => refused(r.number, r.place),
+        FontAnswer::Read { header, count } => says(count, header),
+        FontAnswer::Refused(r) => refused(r.number, r.place),
     }
 }
 

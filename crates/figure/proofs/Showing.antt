@@ -14,8 +14,8 @@ use Rattle.ground.specs.Limits.{maxLineWidth}
 use Rattle.ground.specs.Refusals.{areaTooSmall, lineTooWide}
 use Rattle.ground.proofs.Areas.{padded-of}
 use Rattle.join.specs.Join.{Figure, rowsOf}
-use Rattle.join.proofs.Likeness.{Like}
 use Rattle.join.proofs.Rows.{length-rows, rows-cong}
+use Rattle.join.specs.Writing.{Like}
 use Rattle.figure.specs.declared.Output.{Output}
 use Rattle.figure.specs.declared.Output.the-variants.{Drawn, Refused}
 use Rattle.figure.specs.Line.{blanked, ended, shownAt, shown, outputOf, drawnOnly, outputBytes}

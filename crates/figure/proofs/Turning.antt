@@ -9,13 +9,11 @@ use lib.ListN.{length, getD}
 use Rattle.subchars.specs.declared.Direction.{Direction}
 use Rattle.subchars.specs.declared.Direction.the-variants.{LeftToRight, RightToLeft}
 use Rattle.subchars.specs.declared.Mode.{Mode}
-use Rattle.lanes.proofs.Agreeing.{Agree}
-use Rattle.lanes.specs.Blocks.{Inside}
+use Rattle.lanes.specs.Blocks.{Inside, Agree}
 use Rattle.join.specs.Join.{Figure, seen, leftOf, rightOf, overlap, joinedAt, pairByte, besides}
-use Rattle.join.specs.Writing.{RowAfterRow}
+use Rattle.join.specs.Writing.{RowAfterRow, Like}
 use Rattle.join.proofs.Cells.{cell-left, cell-pair, cell-right}
 use Rattle.join.proofs.Demand.{overlap-narrower}
-use Rattle.join.proofs.Likeness.{Like}
 use Rattle.figure.specs.Line.{attached}
 use Rattle.figure.specs.Scratch.{lineStart, scratchLine, rowsAt, RowsIn, metBy, met, LaidRows, Holds}
 use Rattle.figure.proofs.Laying.{same-at}

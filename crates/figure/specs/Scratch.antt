@@ -7,7 +7,7 @@ use lib.ListN.{length, getD}
 use Rattle.subchars.specs.declared.Direction.{Direction}
 use Rattle.subchars.specs.declared.Direction.the-variants.{LeftToRight, RightToLeft}
 use Rattle.subchars.specs.declared.Mode.{Mode}
-use Rattle.lanes.proofs.Agreeing.{Agree}
+use Rattle.lanes.specs.Blocks.{Agree}
 use Rattle.join.specs.Join.{Figure, pairByte}
 use Rattle.join.specs.Writing.{fromOn}
 

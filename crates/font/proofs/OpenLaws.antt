@@ -9,6 +9,7 @@ use lib.Dec.{ltb, leb, leb·suc-suc}
 use lib.ListN.{length, drop, take}
 use borrow.Author.Tests.{lt-ltb, le-ltb, ltb-true, ltb-false, le-leb, lt-leb}
 use Rattle.ground.specs.Refusals.{refusal, fontTooLong, noSignature, missingLine}
+use Rattle.ground.specs.Limits.{maxFontLength}
 use Rattle.lines.specs.declared.Cursor.{Cursor}
 use Rattle.lines.specs.Lines.{TextLine, linesFrom, textAt, nextStart, after}
 use Rattle.lines.proofs.LineLaws.{lines-none, lines-next, after-lines, LineFound, line-part}
@@ -20,7 +21,7 @@ use Rattle.chars.specs.Chars.{listing}
 use Rattle.font.specs.declared.SkipStep.the-variants.{Skipped, TooFew}
 use Rattle.font.specs.declared.Opening.{Opening}
 use Rattle.font.specs.declared.Opening.the-variants.{Closed}
-use Rattle.font.specs.Font.{maxFontLength, refuses, format, withCharacters, afterHeader, onLines, reading}
+use Rattle.font.specs.Font.{refuses, format, withCharacters, afterHeader, onLines, reading}
 use Rattle.font.specs.Steps.{skipAt, commentsThen, pastComments, openBy, firstLine, openAt, readFrom}
 
 header-reads : (x : HeaderStep) (s : List ℕ) (at : ℕ) → afterHeader x (length s) (linesFrom s at) ≡ readFrom s (openBy x s at)

@@ -12,6 +12,7 @@ use borrow.Author.Tests.{lt-ltb, le-ltb, ltb-true, ltb-false}
 use Rattle.ground.specs.Refusals.{refusal, fontTooLong, noSignature, missingLine}
 use Rattle.ground.specs.declared.refusals.Refusal.{Refusal}
 use Rattle.ground.proofs.Tests.{clash}
+use Rattle.ground.specs.Limits.{maxCharacters, maxFontLength}
 use Rattle.lines.specs.Lines.{TextLine, linesFrom}
 use Rattle.header.specs.declared.Header.{Header}
 use Rattle.header.specs.declared.HeaderStep.{HeaderStep}
@@ -21,11 +22,11 @@ use Rattle.header.proofs.ParameterLaws.{High}
 use Rattle.header.proofs.RefusalLaws.{header-refusal, header-high}
 use Rattle.chars.specs.declared.Entry.{Entry}
 use Rattle.chars.specs.Codes.{requiredCodes}
-use Rattle.chars.specs.Chars.{maxCharacters, Ending, finished, stopped, Listing, listing}
+use Rattle.chars.specs.Chars.{Ending, finished, stopped, Listing, listing}
 use Rattle.chars.proofs.CodeLaws.{codes-length}
 use Rattle.chars.proofs.EntryLaws.{EachStands, each-further, each-dropped, Sound, listing-sound, Stops, by, listing-stops}
 use Rattle.chars.proofs.OrderLaws.{InOrder, listing-ordered}
-use Rattle.font.specs.Font.{maxFontLength, Reading, says, refuses, format, readingOf, withCharacters, afterHeader, onLines, reading}
+use Rattle.font.specs.Font.{Reading, says, refuses, format, readingOf, withCharacters, afterHeader, onLines, reading}
 
 -- The number and the place of a refusal, 0 for a font that is read.
 number-of : Reading → ℕ

@@ -7,6 +7,7 @@ use lib.Dec.{ltb, leb}
 use lib.ListN.{length, drop}
 use Rattle.ground.specs.Refusals.{refusal, fontTooLong, noSignature, missingLine}
 use Rattle.ground.specs.declared.refusals.Refusal.{Refusal}
+use Rattle.ground.specs.Limits.{maxFontLength}
 use Rattle.lines.specs.Lines.{TextLine, linesFrom}
 use Rattle.header.specs.declared.Header.{Header}
 use Rattle.header.specs.declared.HeaderStep.{HeaderStep}
@@ -16,10 +17,6 @@ use Rattle.rows.specs.declared.Format.{Format}
 use Rattle.chars.specs.declared.Entry.{Entry}
 use Rattle.chars.specs.Codes.{requiredCodes}
 use Rattle.chars.specs.Chars.{Ending, finished, stopped, Listing, listing}
-
--- "Font at most 65,536 bytes."
-abbrev pub maxFontLength : ℕ
-maxFontLength = 65536
 
 -- A font is read, with its header and its characters in file order, or refused.
 pub data Reading : Type 0 where

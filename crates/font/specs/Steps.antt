@@ -6,6 +6,7 @@ use mathlib.Core.List.{List}
 use lib.Dec.{ltb, leb}
 use lib.ListN.{length}
 use Rattle.ground.specs.Refusals.{refusal, fontTooLong, noSignature, missingLine}
+use Rattle.ground.specs.Limits.{maxFontLength}
 use Rattle.lines.specs.Lines.{linesFrom, textAt, nextStart, after}
 use Rattle.header.specs.declared.Header.{Header}
 use Rattle.header.specs.declared.HeaderStep.{HeaderStep}
@@ -17,7 +18,7 @@ use Rattle.font.specs.declared.SkipStep.{SkipStep}
 use Rattle.font.specs.declared.SkipStep.the-variants.{Skipped, TooFew}
 use Rattle.font.specs.declared.Opening.{Opening}
 use Rattle.font.specs.declared.Opening.the-variants.{Open, Closed}
-use Rattle.font.specs.Font.{maxFontLength, Reading, refuses, format, withCharacters}
+use Rattle.font.specs.Font.{Reading, refuses, format, withCharacters}
 
 -- n lines further.
 unfoldable pub skipAt : List ℕ → ℕ → ℕ → SkipStep

@@ -1,4 +1,5 @@
 // The start of a FIGfont: its size, its header line and its comment lines.
+use ground::limits;
 use ground::refusals;
 use ground::refusals::Refusal;
 use header::Header;
@@ -7,8 +8,6 @@ use lines::Cursor;
 use lines::LineStep;
 ghost use mathlib.Core.Path.{_≡_};
 ghost use Rattle.font.specs.Steps.{skipAt, pastComments, firstLine, openAt};
-
-const MAX_FONT_LENGTH: usize = 65536;
 
 // A place some lines further.
 pub enum SkipStep {
@@ -85,7 +84,7 @@ fn first_line(font: &[u8]) -> Opening
 pub fn open_font(font: &[u8]) -> Opening
     ensures { λ r. ⌜ r ≡ openAt (now (font .entry)) ⌝ }
 {
-    if MAX_FONT_LENGTH < font.len() {
+    if limits::MAX_FONT_LENGTH < font.len() {
         return Opening::Closed(Refusal {
             number: refusals::FONT_TOO_LONG,
             place: 0,

@@ -15,7 +15,8 @@ use Rattle.lines.specs.declared.numbers.Number.{Number}
 use Rattle.lines.specs.declared.numbers.Number.the-variants.{Value, NotNumber}
 use Rattle.lines.proofs.WordLaws.{word-le, word-rest}
 use Rattle.header.specs.declared.WordStep.the-variants.{Word, NoWord}
-use Rattle.header.specs.Header.{maxParameters, numbers, parameterNumbers, wordNext, wordStep}
+use Rattle.header.specs.Header.{maxParameters, numbers, parameterNumbers}
+use Rattle.header.specs.Steps.{wordNext, wordStep}
 
 -- What a step says of the word there.
 record Found (m : Number) (k : ℕ) (z : ℤ) (next : ℕ) : Type 0 where

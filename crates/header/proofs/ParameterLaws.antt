@@ -18,8 +18,8 @@ use Rattle.header.specs.declared.Parameter.the-variants.{Missing, Number
 use Rattle.header.specs.declared.Parameters.{Parameters}
 use Rattle.header.specs.declared.ParameterStep.{ParameterStep}
 use Rattle.header.specs.declared.ParameterStep.the-variants.{All, TooFew}
-use Rattle.ground.specs.Limits.{maxHeight}
-use Rattle.header.specs.Header.{parameter, parameters, longestLine, minOldLayout, maxOldLayout, mostComments, lastDirection, maxFullLayout, within, allowed, legal}
+use Rattle.ground.specs.Limits.{maxHeight, maxLength, maxRules, maxCommentLines, maxFullLayout, maxDirection}
+use Rattle.header.specs.Header.{parameter, parameters, minOldLayout, within, allowed, legal}
 use Rattle.header.specs.Steps.{notNegative}
 
 -- One number of the first n.
@@ -131,14 +131,14 @@ pub record Sizes (p : Parameters) : Type 0 where
 
 -- The ranges of legal parameters, one after the other.
 ranges : (p : Parameters) → legal p ≡ true →
-    Every (within (pos 1) (pos maxHeight) (p .height)) (within (pos 1) (p .height) (p .baseline)) (within (pos 1) longestLine (p .«max_length»))
-    (within minOldLayout maxOldLayout (p .«old_layout»)) (within (pos 0) mostComments (p .«comment_lines»)) (allowed lastDirection (p .«print_direction»))
-    (allowed maxFullLayout (p .«full_layout»)) (allowed highest (p .«codetag_count»))
+    Every (within (pos 1) (pos maxHeight) (p .height)) (within (pos 1) (p .height) (p .baseline)) (within (pos 1) (pos maxLength) (p .«max_length»))
+    (within minOldLayout (pos maxRules) (p .«old_layout»)) (within (pos 0) (pos maxCommentLines) (p .«comment_lines»)) (allowed (pos maxDirection) (p .«print_direction»))
+    (allowed (pos maxFullLayout) (p .«full_layout»)) (allowed highest (p .«codetag_count»))
 unfolding legal
 ranges p e =
-    every (within (pos 1) (pos maxHeight) (p .height)) (within (pos 1) (p .height) (p .baseline)) (within (pos 1) longestLine (p .«max_length»))
-    (within minOldLayout maxOldLayout (p .«old_layout»)) (within (pos 0) mostComments (p .«comment_lines»)) (allowed lastDirection (p .«print_direction»))
-    (allowed maxFullLayout (p .«full_layout»)) (allowed highest (p .«codetag_count»)) e
+    every (within (pos 1) (pos maxHeight) (p .height)) (within (pos 1) (p .height) (p .baseline)) (within (pos 1) (pos maxLength) (p .«max_length»))
+    (within minOldLayout (pos maxRules) (p .«old_layout»)) (within (pos 0) (pos maxCommentLines) (p .«comment_lines»)) (allowed (pos maxDirection) (p .«print_direction»))
+    (allowed (pos maxFullLayout) (p .«full_layout»)) (allowed highest (p .«codetag_count»)) e
 
 pub sizes : (p : Parameters) → legal p ≡ true → Sizes p
 sizes p e =
@@ -146,10 +146,10 @@ sizes p e =
     record {
       height = not-negative 1 (pos maxHeight) (p .height) (s .t0);
       baseline = not-negative 1 (p .height) (p .baseline) (s .t1);
-      longest = not-negative 1 longestLine (p .«max_length») (s .t2);
-      comments = not-negative 0 mostComments (p .«comment_lines») (s .t4);
-      direction = if-given lastDirection (p .«print_direction») (s .t5);
-      layout = if-given maxFullLayout (p .«full_layout») (s .t6);
+      longest = not-negative 1 (pos maxLength) (p .«max_length») (s .t2);
+      comments = not-negative 0 (pos maxCommentLines) (p .«comment_lines») (s .t4);
+      direction = if-given (pos maxDirection) (p .«print_direction») (s .t5);
+      layout = if-given (pos maxFullLayout) (p .«full_layout») (s .t6);
       tags = if-given highest (p .«codetag_count») (s .t7);
     }
 

@@ -1,6 +1,6 @@
 -- The header line of a FIGfont: document 01, "Sizes" and "The font, line by line".
 -- Assumes nothing.
-use Prim.Native.Nat.{ℕ, zero, suc, _+_}
+use Prim.Native.Nat.{ℕ, zero, suc}
 use mathlib.Core.Bool.{Bool, true, cond, _&&_}
 use mathlib.Core.List.{List, [], _∷_}
 use lib.ListN.{length, drop}
@@ -8,13 +8,13 @@ use lib.IntN.{ℤ, pos, negsuc, natAbs}
 use lib.Signed.{leZ}
 use Rattle.ground.specs.Text.{bytes}
 use Rattle.ground.specs.Runs.{begins}
-use Rattle.ground.specs.Limits.{maxHeight, maxRules}
+use Rattle.ground.specs.Limits.{maxHeight, maxLength, maxRules, maxCommentLines, maxFullLayout, maxDirection}
 use Rattle.ground.specs.Refusals.{refusal, noSignature, badHardblank, badParameters}
 use Rattle.subchars.specs.declared.SubCharacter.{SubCharacter}
 use Rattle.subchars.specs.declared.Layout.{Layout}
 use Rattle.subchars.specs.Layouts.{oldLayout, fullLayout}
 use Rattle.subchars.specs.Pair.{isHardblank}
-use Rattle.lines.specs.Words.{isBlank, firstWord, afterWord, wordEnd}
+use Rattle.lines.specs.Words.{isBlank, firstWord, afterWord}
 use Rattle.lines.specs.Numbers.{headerNumber, highest}
 use Rattle.lines.specs.declared.numbers.Number.{Number as Read}
 use Rattle.lines.specs.declared.numbers.Number.the-variants.{Value, NotNumber}
@@ -28,8 +28,6 @@ use Rattle.header.specs.declared.ParameterStep.the-variants.{All, TooFew
 use Rattle.header.specs.declared.Header.{Header}
 use Rattle.header.specs.declared.HeaderStep.{HeaderStep}
 use Rattle.header.specs.declared.HeaderStep.the-variants.{Good, Refused}
-use Rattle.header.specs.declared.WordStep.{WordStep}
-use Rattle.header.specs.declared.WordStep.the-variants.{Word, NoWord}
 
 -- "Height, Baseline, Max_Length, Old_Layout, Comment_Lines, and optionally Print_Direction, Full_Layout, Codetag_Count": at most 8 numbers.
 abbrev pub maxParameters : ℕ
@@ -76,23 +74,8 @@ parameters (a ∷ b ∷ c ∷ d ∷ []) = TooFew
 
 -- "Height 1 to 32, Baseline 1 to Height, Max_Length 1 to 200, Old_Layout -1 to 63, Comment_Lines 0 to 1,000, Full_Layout 0 to 32,767,
 -- Print_Direction 0 or 1, Codetag_Count not negative."
-abbrev pub longestLine : ℤ
-longestLine = pos 200
-
 abbrev pub minOldLayout : ℤ
 minOldLayout = negsuc 0
-
-abbrev pub maxOldLayout : ℤ
-maxOldLayout = pos maxRules
-
-abbrev pub mostComments : ℤ
-mostComments = pos 1000
-
-abbrev pub maxFullLayout : ℤ
-maxFullLayout = pos 32767
-
-abbrev pub lastDirection : ℤ
-lastDirection = pos 1
 
 unfoldable pub within : ℤ → ℤ → ℤ → Bool
 within low high z = leZ low z && leZ z high
@@ -104,9 +87,9 @@ allowed high (Number z) = within (pos 0) high z
 
 unfoldable pub legal : Parameters → Bool
 legal p =
-    within (pos 1) (pos maxHeight) (p .height) && within (pos 1) (p .height) (p .baseline) && within (pos 1) longestLine (p .«max_length») &&
-    within minOldLayout maxOldLayout (p .«old_layout») && within (pos 0) mostComments (p .«comment_lines») &&
-    allowed lastDirection (p .«print_direction») && allowed maxFullLayout (p .«full_layout») && allowed highest (p .«codetag_count»)
+    within (pos 1) (pos maxHeight) (p .height) && within (pos 1) (p .height) (p .baseline) && within (pos 1) (pos maxLength) (p .«max_length») &&
+    within minOldLayout (pos maxRules) (p .«old_layout») && within (pos 0) (pos maxCommentLines) (p .«comment_lines») &&
+    allowed (pos maxDirection) (p .«print_direction») && allowed (pos maxFullLayout) (p .«full_layout») && allowed highest (p .«codetag_count»)
 
 -- The header of legal parameters. A missing parameter is kept apart from 0.
 abbrev pub given : Parameter → Given
@@ -161,11 +144,3 @@ signature = bytes "flf2a"
 
 unfoldable pub readHeader : List ℕ → HeaderStep
 readHeader t = cond (begins signature t) (afterSignature (drop (length signature) t)) (refused noSignature)
-
--- One word by places: the number that the first word from a place on is, and where that word ends.
-abbrev pub wordNext : Read → ℕ → WordStep
-wordNext (Value z) next = Word z next
-wordNext NotNumber next = NoWord
-
-unfoldable pub wordStep : List ℕ → ℕ → WordStep
-wordStep t at = wordNext (headerNumber (firstWord (drop at t))) (at + wordEnd (drop at t))

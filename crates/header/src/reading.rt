@@ -22,8 +22,8 @@ ghost use lib.Dec.{T};
 ghost use lib.IntN.{natAbs};
 ghost use lib.ListN.{length};
 ghost use lib.Signed.{nonNeg};
-ghost use Rattle.header.specs.Header.{parameterNumbers, parameter, parameters, within, allowed, legal, given, layoutOf, header, headerOf, wordStep};
-ghost use Rattle.header.specs.Steps.{listed, notNegative};
+ghost use Rattle.header.specs.Header.{parameterNumbers, parameter, parameters, within, allowed, legal, given, layoutOf, header, headerOf};
+ghost use Rattle.header.specs.Steps.{listed, notNegative, wordStep};
 
 // How many parameters there are, how many of them are required, and their ranges.
 const MAX_PARAMETERS: usize = 8;
@@ -32,17 +32,17 @@ const REQUIRED_PARAMETERS: usize = 5;
 
 const MAX_HEIGHT: i32 = limits::MAX_HEIGHT as i32;
 
-const LONGEST_LINE: i32 = 200;
+const MAX_LENGTH: i32 = limits::MAX_LENGTH as i32;
 
 const MIN_OLD_LAYOUT: i32 = -1;
 
 const MAX_OLD_LAYOUT: i32 = limits::MAX_RULES as i32;
 
-const MOST_COMMENTS: i32 = 1000;
+const MAX_COMMENT_LINES: i32 = limits::MAX_COMMENT_LINES as i32;
 
-const LAST_DIRECTION: i32 = 1;
+const MAX_DIRECTION: i32 = limits::MAX_DIRECTION as i32;
 
-const MAX_FULL_LAYOUT: i32 = 32767;
+const MAX_FULL_LAYOUT: i32 = limits::MAX_FULL_LAYOUT as i32;
 
 const MAX_CODETAG_COUNT: i32 = 2147483647;
 
@@ -144,10 +144,10 @@ fn is_legal(p: Parameters) -> bool
         is_within(p.height, 1, MAX_HEIGHT),
         is_within(p.baseline, 1, p.height),
     );
-    let b = both(a, is_within(p.max_length, 1, LONGEST_LINE));
+    let b = both(a, is_within(p.max_length, 1, MAX_LENGTH));
     let c = both(b, is_within(p.old_layout, MIN_OLD_LAYOUT, MAX_OLD_LAYOUT));
-    let d = both(c, is_within(p.comment_lines, 0, MOST_COMMENTS));
-    let e = both(d, is_allowed(direction, LAST_DIRECTION));
+    let d = both(c, is_within(p.comment_lines, 0, MAX_COMMENT_LINES));
+    let e = both(d, is_allowed(direction, MAX_DIRECTION));
     let f = both(e, is_allowed(full, MAX_FULL_LAYOUT));
     both(f, is_allowed(tags, MAX_CODETAG_COUNT))
 }

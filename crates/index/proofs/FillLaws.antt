@@ -14,6 +14,7 @@ use borrow.Author.Tests.{ltb-true, ltb-false}
 use Rattle.ground.specs.Refusals.{refusal, tooManyCharacters}
 use Rattle.ground.specs.declared.refusals.Refusal.{Refusal}
 use Rattle.ground.proofs.Tests.{clash}
+use Rattle.ground.specs.Limits.{maxCharacters}
 use Rattle.rows.specs.declared.Format.{Format}
 use Rattle.chars.specs.declared.Entry.{Entry}
 use Rattle.chars.specs.declared.TagAt.{TagAt}
@@ -21,7 +22,7 @@ use Rattle.chars.specs.declared.TagAt.the-variants.{TagLine, NoTag}
 use Rattle.chars.specs.declared.CharNext.{CharNext}
 use Rattle.chars.specs.declared.CharNext.the-variants.{Listed, Complete, Stopped}
 use Rattle.chars.specs.Codes.{requiredCount}
-use Rattle.chars.specs.Chars.{maxCharacters, Ending, finished, stopped, Listing, ends}
+use Rattle.chars.specs.Chars.{Ending, finished, stopped, Listing, ends}
 use Rattle.chars.specs.Steps.{listedAt, tagAt, blankFrom, taggedThen, taggedAt, nextOf, nextAt}
 use Rattle.chars.proofs.CodeLaws.{none-required}
 use Rattle.chars.proofs.ListingLaws.{rest, following, rest-step}
@@ -90,7 +91,7 @@ module _ (f : Format) (s : List ℕ) (from : ℕ) (codes₀ : List ℤ) (starts�
         widths-are = refl;
       }
 
-  module _ (big : Room codes₀ starts₀ widths₀) (codes : List ℤ) (starts widths : List ℕ) (at n : ℕ) (h : Held f s from codes₀ starts₀ widths₀ codes starts widths at n) where
+  module _ (big : Room maxCharacters codes₀ starts₀ widths₀) (codes : List ℤ) (starts widths : List ℕ) (at n : ℕ) (h : Held f s from codes₀ starts₀ widths₀ codes starts widths at n) where
     step-whole : (e : Entry) (next : ℕ) → Listed e next ≡ nextAt f s at n → listingAt f s from ≡ before (h .done ++ (e ∷ [])) (rest f s (n + 1) next)
     step-whole e next p =
         h .whole ∙ ap (before (h .done)) (rest-step f s n at ∙ sym (ap (following f s n) p)) ∙
@@ -123,10 +124,12 @@ module _ (f : Format) (s : List ℕ) (from : ℕ) (codes₀ : List ℤ) (starts�
         subst (λ (y : Listing). Indexed y (endedBy x n) codes starts widths) (sym e)
         (record {
           answer = ap (endedBy x) c;
-          few = omega (arith, c, h .few);
-          codes-are = ap (λ (j : ℕ). take j codes) (sym c) ∙ h .codes-are;
-          starts-are = ap (λ (j : ℕ). take j starts) (sym c) ∙ h .starts-are;
-          widths-are = ap (λ (j : ℕ). take j widths) (sym c) ∙ h .widths-are;
+          lists = record {
+            few = omega (arith, c, h .few);
+            codes-are = ap (λ (j : ℕ). take j codes) (sym c) ∙ h .codes-are;
+            starts-are = ap (λ (j : ℕ). take j starts) (sym c) ∙ h .starts-are;
+            widths-are = ap (λ (j : ℕ). take j widths) (sym c) ∙ h .widths-are;
+          };
         })
 
     pub held-done : Complete ≡ nextAt f s at n → Indexed (listingAt f s from) (Filled n) codes starts widths

@@ -12,7 +12,8 @@ use Rattle.ground.proofs.Tests.{and-both, and-left-false, and-right-false, or-l
 use Rattle.ground.proofs.Counting.{every-at, every-of, reach-le, reach-all, reach-stop, reach-is}
 use Rattle.subchars.specs.Pair.{blank}
 use Rattle.lanes.specs.Blocks.{Block}
-use Rattle.lanes.specs.Overlap.{laneFacing, facing, hasBlank, free, fitting, Leading, Trailing}
+use Rattle.lanes.specs.Overlap.{laneFacing, facing, hasBlank, free, fitting}
+use Rattle.lanes.specs.Blanks.{Leading, Trailing}
 
 has-left : (l r : ℕ) → l ≡ blank → hasBlank l r ≡ true
 unfolding hasBlank

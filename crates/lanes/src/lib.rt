@@ -3,7 +3,8 @@ ghost use mathlib.Core.Path.{_≡_};
 ghost use Prim.Native.Nat.{ℕ, _+_, _*_, _<_, _≤_};
 ghost use lib.ListN.{length};
 ghost use Rattle.lanes.specs.Blocks.{lane, block, Inside};
-ghost use Rattle.lanes.specs.Overlap.{Leading, Trailing, fitting};
+ghost use Rattle.lanes.specs.Overlap.{fitting};
+ghost use Rattle.lanes.specs.Blanks.{Leading, Trailing};
 
 // Where a block lies in a slice whose lanes start at places of their own: lane r and position k at base + starts[r] + k * along, len
 // positions to a lane. The rows of a block have along 1; its columns have its width.

@@ -18,13 +18,13 @@ use Rattle.font.proofs.OpenLaws.{open-reads}
 use Rattle.index.specs.declared.Filling.{Filling}
 use Rattle.index.specs.declared.Filling.the-variants.{Filled, Failed}
 use Rattle.index.specs.Index.{listingAt, endedBy, Indexed}
-use Rattle.reader.specs.declared.FontStep.{FontStep}
-use Rattle.reader.specs.declared.FontStep.the-variants.{Read, Unread}
-use Rattle.reader.specs.Reader.{stepOf, entriesOf, ReadInto, Behind}
+use Rattle.reader.specs.declared.FontAnswer.{FontAnswer}
+use Rattle.reader.specs.declared.FontAnswer.the-variants.{Read, Refused}
+use Rattle.reader.specs.Reader.{answerOf, entriesOf, ReadInto, Behind}
 
 module _ (codes : List ℤ) (starts widths : List ℕ) where
   -- a refused font has no characters
-  unread : (r : Refusal) → ReadInto (refuses r) (Unread r) codes starts widths
+  unread : (r : Refusal) → ReadInto (refuses r) (Refused r) codes starts widths
   unread r = record { answer = refl; lists = record { few = omega arith; codes-are = refl; starts-are = refl; widths-are = refl } }
 
   module _ (h : Header) (x : Listing) where
@@ -32,15 +32,15 @@ module _ (codes : List ℤ) (starts widths : List ℕ) where
     filled n i = go (x .ending) (i .answer)
       where
         go : (en : Ending) → Filled n ≡ endedBy en (length (x .entries)) → ReadInto (readingOf h en (x .entries)) (Read h n) codes starts widths
-        go finished e = record { answer = cc; lists = record { few = i .few; codes-are = i .codes-are; starts-are = i .starts-are; widths-are = i .widths-are } }
+        go finished e = record { answer = cc; lists = i .lists }
         go (stopped q) e = clash (cc)
 
-    failed : (r : Refusal) → Indexed x (Failed r) codes starts widths → ReadInto (withCharacters h x) (Unread r) codes starts widths
+    failed : (r : Refusal) → Indexed x (Failed r) codes starts widths → ReadInto (withCharacters h x) (Refused r) codes starts widths
     failed r i = go (x .ending) (i .answer)
       where
-        go : (en : Ending) → Failed r ≡ endedBy en (length (x .entries)) → ReadInto (readingOf h en (x .entries)) (Unread r) codes starts widths
+        go : (en : Ending) → Failed r ≡ endedBy en (length (x .entries)) → ReadInto (readingOf h en (x .entries)) (Refused r) codes starts widths
         go finished e = clash (cc)
-        go (stopped q) e = let p : r ≡ q = cc in subst (λ (y : Refusal). ReadInto (refuses y) (Unread r) codes starts widths) p (unread r)
+        go (stopped q) e = let p : r ≡ q = cc in subst (λ (y : Refusal). ReadInto (refuses y) (Refused r) codes starts widths) p (unread r)
 
   -- the answer of the filling, from a place of a font on
   module _ (h : Header) (s : List ℕ) (at : ℕ) (f : Format) (e : f ≡ format h) (r : Filling) (i : Indexed (listingAt f s at) r codes starts widths) where
@@ -52,25 +52,25 @@ module _ (codes : List ℤ) (starts widths : List ℕ) where
     pub behind-filled : (n : ℕ) → r ≡ Filled n → Behind h s at (Read h n) codes starts widths
     behind-filled n p = filled h (listingAt (format h) s at) n (indexed (Filled n) p)
 
-    pub behind-failed : (q : Refusal) → r ≡ Failed q → Behind h s at (Unread q) codes starts widths
+    pub behind-failed : (q : Refusal) → r ≡ Failed q → Behind h s at (Refused q) codes starts widths
     behind-failed q p = failed h (listingAt (format h) s at) q (indexed (Failed q) p)
 
   module _ (s : List ℕ) where
-    pub opened : (h : Header) (at : ℕ) (r : FontStep) → Open h at ≡ openAt s → Behind h s at r codes starts widths → ReadInto (reading s) r codes starts widths
+    pub opened : (h : Header) (at : ℕ) (r : FontAnswer) → Open h at ≡ openAt s → Behind h s at r codes starts widths → ReadInto (reading s) r codes starts widths
     opened h at r p b = subst (λ (m : Reading). ReadInto m r codes starts widths) (sym (open-reads s ∙ ap (readFrom s) (sym p))) b
 
-    pub closed : (r : Refusal) → Closed r ≡ openAt s → ReadInto (reading s) (Unread r) codes starts widths
-    closed r p = subst (λ (m : Reading). ReadInto m (Unread r) codes starts widths) (sym (open-reads s ∙ ap (readFrom s) (sym p))) (unread r)
+    pub closed : (r : Refusal) → Closed r ≡ openAt s → ReadInto (reading s) (Refused r) codes starts widths
+    closed r p = subst (λ (m : Reading). ReadInto m (Refused r) codes starts widths) (sym (open-reads s ∙ ap (readFrom s) (sym p))) (unread r)
 
 -- What the answer says of the font.
 pub record Said (m : Reading) (h : Header) (n : ℕ) : Type 0 where
   pub is : m ≡ says h (entriesOf m)
   pub count : n ≡ length (entriesOf m)
 
-pub read-says : (m : Reading) (h : Header) (n : ℕ) → Read h n ≡ stepOf m → Said m h n
+pub read-says : (m : Reading) (h : Header) (n : ℕ) → Read h n ≡ answerOf m → Said m h n
 read-says (says g es) h n e = let p : h ≡ g = cc in record { is = ap (λ (x : Header). says x es) (sym p); count = cc }
 read-says (refuses q) h n e = clash (cc)
 
-pub unread-refuses : (m : Reading) (r : Refusal) → Unread r ≡ stepOf m → m ≡ refuses r
+pub unread-refuses : (m : Reading) (r : Refusal) → Refused r ≡ answerOf m → m ≡ refuses r
 unread-refuses (says g es) r e = clash (cc)
 unread-refuses (refuses q) r e = let p : r ≡ q = cc in ap refuses (sym p)

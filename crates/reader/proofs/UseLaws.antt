@@ -15,11 +15,11 @@ use Rattle.chars.specs.Codes.{code}
 use Rattle.chars.specs.Chars.{entry}
 use Rattle.index.specs.declared.Found.{Found}
 use Rattle.index.specs.declared.Found.the-variants.{At, Nowhere}
-use Rattle.index.specs.Index.{codeOf, startOf, widthOf}
+use Rattle.index.specs.Index.{codeOf, startOf, widthOf, Lists}
 use Rattle.index.specs.LookUp.{lastAt, orElse, lookUp}
 use Rattle.index.proofs.FindLaws.{at-last}
 use Rattle.reader.specs.declared.Use.the-variants.{Used, Nothing}
-use Rattle.reader.specs.Reader.{Lists, Within, entryAt, atFound, used}
+use Rattle.reader.specs.Reader.{Within, entryAt, atFound, used}
 
 -- Look-up finds a place of the list.
 pub found-inside : (c : Code) (l : List ℤ) (k : ℕ) → At k ≡ lookUp c l → k < length l

@@ -2,34 +2,26 @@
 -- Assumes nothing.
 use mathlib.Core.Path.{_≡_}
 use mathlib.Core.List.{List, [], _∷_, map}
-use Prim.Native.Nat.{ℕ, zero, suc, _≤_, _<_}
+use Prim.Native.Nat.{ℕ, zero, suc, _<_}
 use lib.IntN.{ℤ}
-use lib.ListN.{length, take}
+use lib.ListN.{length}
 use Rattle.subchars.specs.declared.Code.{Code}
 use Rattle.header.specs.declared.Header.{Header}
 use Rattle.chars.specs.declared.Entry.{Entry}
-use Rattle.chars.specs.Chars.{maxCharacters}
 use Rattle.font.specs.Font.{Reading, says, refuses, format, withCharacters}
 use Rattle.index.specs.declared.Found.{Found}
 use Rattle.index.specs.declared.Found.the-variants.{At, Nowhere}
-use Rattle.index.specs.Index.{codeOf, startOf, widthOf, listingAt}
+use Rattle.index.specs.Index.{codeOf, listingAt, Lists}
 use Rattle.index.specs.LookUp.{lookUp}
-use Rattle.reader.specs.declared.FontStep.{FontStep}
-use Rattle.reader.specs.declared.FontStep.the-variants.{Read, Unread}
+use Rattle.reader.specs.declared.FontAnswer.{FontAnswer}
+use Rattle.reader.specs.declared.FontAnswer.the-variants.{Read, Refused}
 use Rattle.reader.specs.declared.Use.{Use}
 use Rattle.reader.specs.declared.Use.the-variants.{Used, Nothing}
 
--- "Code, start of the first row line, width, in file order": the lists begin with the entries.
-pub record Lists (es : List Entry) (codes : List ℤ) (starts widths : List ℕ) : Type 0 where
-  pub few : length es ≤ maxCharacters
-  pub codes-are : take (length es) codes ≡ map codeOf es
-  pub starts-are : take (length es) starts ≡ map startOf es
-  pub widths-are : take (length es) widths ≡ map widthOf es
-
 -- "And the answer gives how many."
-abbrev pub stepOf : Reading → FontStep
-stepOf (says h es) = Read h (length es)
-stepOf (refuses r) = Unread r
+abbrev pub answerOf : Reading → FontAnswer
+answerOf (says h es) = Read h (length es)
+answerOf (refuses r) = Refused r
 
 -- The characters of a font that is read.
 abbrev pub entriesOf : Reading → List Entry
@@ -37,19 +29,13 @@ entriesOf (says h es) = es
 entriesOf (refuses r) = []
 
 -- What reading a font answers, and its characters in the lists.
-pub record ReadInto (m : Reading) (r : FontStep) (codes : List ℤ) (starts widths : List ℕ) : Type 0 where
-  pub answer : r ≡ stepOf m
+pub record ReadInto (m : Reading) (r : FontAnswer) (codes : List ℤ) (starts widths : List ℕ) : Type 0 where
+  pub answer : r ≡ answerOf m
   pub lists : Lists (entriesOf m) codes starts widths
 
 -- The same, from the place behind the comment lines on.
-abbrev pub Behind : Header → List ℕ → ℕ → FontStep → List ℤ → List ℕ → List ℕ → Type 0
+abbrev pub Behind : Header → List ℕ → ℕ → FontAnswer → List ℤ → List ℕ → List ℕ → Type 0
 Behind h s at r codes starts widths = ReadInto (withCharacters h (listingAt (format h) s at)) r codes starts widths
-
--- Each list has as many numbers as there are characters.
-pub record Counted (n : ℕ) (codes : List ℤ) (starts widths : List ℕ) : Type 0 where
-  pub in-codes : n ≤ length codes
-  pub in-starts : n ≤ length starts
-  pub in-widths : n ≤ length widths
 
 -- A place that was found is one of the first n.
 abbrev pub Within : ℕ → Found → Type 0

@@ -11,16 +11,17 @@ use subchars::Code;
 ghost use mathlib.Core.Path.{_≡_};
 ghost use mathlib.Core.List.{List};
 ghost use lib.ListN.{length, take};
+ghost use Rattle.ground.specs.Limits.{maxCharacters};
 ghost use Rattle.chars.specs.declared.Entry.{Entry};
-ghost use Rattle.index.specs.Index.{Room};
+ghost use Rattle.index.specs.Index.{Room, Lists};
 ghost use Rattle.index.specs.Latest.{Latest};
 ghost use Rattle.font.specs.Font.{format, reading};
-ghost use Rattle.reader.specs.Reader.{Lists, ReadInto, Behind, Counted, Within, atFound, used};
+ghost use Rattle.reader.specs.Reader.{ReadInto, Behind, Within, atFound, used};
 
-// The header of a font and how many characters it has, or its refusal.
-pub enum FontStep {
+// What reading a font answers: its header, with the layout, and how many characters it has; or a refusal.
+pub enum FontAnswer {
     Read { header: Header, count: usize },
-    Unread(Refusal),
+    Refused(Refusal),
 }
 
 // The character that is used for a code.
@@ -49,17 +50,17 @@ fn read_characters(
     codes: &mut [i32],
     starts: &mut [usize],
     widths: &mut [usize],
-) -> FontStep
-    requires { ⌜ Room (now codes) (now starts) (now widths) ⌝ }
+) -> FontAnswer
+    requires { ⌜ Room maxCharacters (now codes) (now starts) (now widths) ⌝ }
     ensures { λ r. ⌜ Behind h (now (font .entry)) at r (now (codes .exit)) (now (starts .exit)) (now (widths .exit)) ⌝ }
 {
     let f = format_of(h);
     match index::fill(f, font, at, codes, starts, widths) {
-        Filling::Filled(n) => FontStep::Read {
+        Filling::Filled(n) => FontAnswer::Read {
             header: h,
             count: n,
         },
-        Filling::Failed(r) => FontStep::Unread(r),
+        Filling::Failed(r) => FontAnswer::Refused(r),
     }
 }
 
@@ -69,19 +70,19 @@ pub fn read_lists(
     codes: &mut [i32],
     starts: &mut [usize],
     widths: &mut [usize],
-) -> FontStep
-    requires { ⌜ Room (now codes) (now starts) (now widths) ⌝ }
+) -> FontAnswer
+    requires { ⌜ Room maxCharacters (now codes) (now starts) (now widths) ⌝ }
     ensures { λ r. ⌜ ReadInto (reading (now (font .entry))) r (now (codes .exit)) (now (starts .exit)) (now (widths .exit)) ⌝ }
 {
     match font::open_font(font) {
         Opening::Open { header, at } => read_characters(header, font, at, codes, starts, widths),
-        Opening::Closed(r) => FontStep::Unread(r),
+        Opening::Closed(r) => FontAnswer::Refused(r),
     }
 }
 
 // What the lists hold at the place that look-up found.
 fn entry_at(codes: &[i32], starts: &[usize], widths: &[usize], count: usize, found: Found) -> Use
-    requires { ⌜ Counted count (now codes) (now starts) (now widths) ⌝ }
+    requires { ⌜ Room count (now codes) (now starts) (now widths) ⌝ }
     requires { ⌜ Within count found ⌝ }
     ensures { λ r. ⌜ ((es : List Entry) → count ≡ length es → Lists es (now (codes .entry)) (now (starts .entry)) (now (widths .entry)) → r ≡ atFound found es) ⌝ }
 {
@@ -103,7 +104,7 @@ pub fn find_entry(
     count: usize,
     code: Code,
 ) -> Use
-    requires { ⌜ Counted count (now codes) (now starts) (now widths) ⌝ }
+    requires { ⌜ Room count (now codes) (now starts) (now widths) ⌝ }
     ensures { λ r. ⌜ ((es : List Entry) → count ≡ length es → Lists es (now (codes .entry)) (now (starts .entry)) (now (widths .entry)) → r ≡ used code es) ⌝ }
 {
     let found = index::look_up(&codes[..count], code);
@@ -119,7 +120,7 @@ pub fn find_known(
     places: &[usize],
     code: Code,
 ) -> Use
-    requires { ⌜ Counted count (now codes) (now starts) (now widths) ⌝ }
+    requires { ⌜ Room count (now codes) (now starts) (now widths) ⌝ }
     requires { ⌜ Latest (take count (now codes)) (now places) ⌝ }
     ensures { λ r. ⌜ ((es : List Entry) → count ≡ length es → Lists es (now (codes .entry)) (now (starts .entry)) (now (widths .entry)) → r ≡ used code es) ⌝ }
 {

@@ -13,18 +13,19 @@ use borrow.Author.Tests.{lt-ltb, le-ltb, ltb-true, ltb-false}
 use Rattle.ground.specs.Refusals.{refusal, badShape}
 use Rattle.ground.specs.declared.refusals.Refusal.{Refusal}
 use Rattle.ground.proofs.Tests.{clash}
+use Rattle.ground.specs.Limits.{maxCharacters}
 use Rattle.subchars.specs.declared.Code.{Code}
 use Rattle.lines.specs.Lines.{after}
 use Rattle.header.specs.declared.Header.{Header}
 use Rattle.chars.specs.declared.Entry.{Entry}
-use Rattle.chars.specs.Chars.{maxCharacters}
 use Rattle.font.specs.Font.{Reading, says, refuses, reading}
 use Rattle.font.proofs.ReadingLaws.{font-refusal}
-use Rattle.reader.specs.declared.FontStep.{FontStep}
-use Rattle.reader.specs.declared.FontStep.the-variants.{Read, Unread}
+use Rattle.index.specs.Index.{Lists}
+use Rattle.reader.specs.declared.FontAnswer.{FontAnswer}
+use Rattle.reader.specs.declared.FontAnswer.the-variants as font-is
 use Rattle.reader.specs.declared.Use.{Use}
 use Rattle.reader.specs.declared.Use.the-variants.{Used, Nothing}
-use Rattle.reader.specs.Reader.{Lists, entriesOf, ReadInto, used}
+use Rattle.reader.specs.Reader.{entriesOf, ReadInto, used}
 use Rattle.reader.proofs.ReadLaws.{read-says, unread-refuses}
 use Rattle.request.specs.declared.Sought.{Sought}
 use Rattle.request.specs.declared.Sought.the-variants as sought-is
@@ -34,8 +35,8 @@ use Rattle.request.specs.Request.{inFont, sought, badRequest, rowOfSough
 use Rattle.request.proofs.RowLaws.{used-stands}
 
 -- A code is sought in the lists that were read.
-module _ (m : Reading) (c : Code) (r : FontStep) (codes : List ℤ) (starts widths : List ℕ) (i : ReadInto m r codes starts widths) where
-  module _ (h : Header) (n : ℕ) (p : r ≡ Read h n) where
+module _ (m : Reading) (c : Code) (r : FontAnswer) (codes : List ℤ) (starts widths : List ℕ) (i : ReadInto m r codes starts widths) where
+  module _ (h : Header) (n : ℕ) (p : r ≡ font-is.Read h n) where
     pub few : n ≤ maxCharacters
     few = omega (arith, read-says m h n (sym p ∙ i .answer) .count, i .lists .few)
 
@@ -45,7 +46,7 @@ module _ (m : Reading) (c : Code) (r : FontStep) (codes : List ℤ) (starts widt
         let x = read-says m h n (sym p ∙ i .answer) in
         ap (inFont (h .height)) (f (entriesOf m) (x .count) (i .lists)) ∙ sym (ap (sought c) (x .is))
 
-  pub seek-unread : (q : Refusal) → r ≡ Unread q → sought-is.Unread q ≡ sought c m
+  pub seek-unread : (q : Refusal) → r ≡ font-is.Refused q → sought-is.Unread q ≡ sought c m
   unfolding sought
   seek-unread q p = sym (ap (sought c) (unread-refuses m q (sym p ∙ i .answer)))
 

@@ -1,10 +1,11 @@
 // The character that a font has for a code, and the row request: where a row of it stands in the font.
 use chars::Entry;
+use ground::limits;
 use ground::refusals;
 use ground::refusals::Refusal;
 use lines::Cursor;
 use lines::LineStep;
-use reader::FontStep;
+use reader::FontAnswer;
 use reader::Use;
 use subchars::Code;
 ghost use mathlib.Core.Path.{_≡_};
@@ -54,18 +55,18 @@ pub fn row_place(font: &[u8], start: usize, row: usize) -> usize
 pub fn seek(font: &[u8], code: Code) -> Sought
     ensures { λ r. ⌜ r ≡ sought code (reading (now (font .entry))) ⌝ }
 {
-    let mut codes = [0i32; chars::MAX_CHARACTERS];
-    let mut starts = [0usize; chars::MAX_CHARACTERS];
-    let mut widths = [0usize; chars::MAX_CHARACTERS];
+    let mut codes = [0i32; limits::MAX_CHARACTERS];
+    let mut starts = [0usize; limits::MAX_CHARACTERS];
+    let mut widths = [0usize; limits::MAX_CHARACTERS];
     match reader::read_lists(font, &mut codes, &mut starts, &mut widths) {
-        FontStep::Read { header, count } => {
+        FontAnswer::Read { header, count } => {
             let height = header.height;
             match reader::find_entry(&codes, &starts, &widths, count, code) {
                 Use::Used(entry) => Sought::Found { height, entry },
                 Use::Nothing => Sought::Missing,
             }
         }
-        FontStep::Unread(r) => Sought::Unread(r),
+        FontAnswer::Refused(r) => Sought::Unread(r),
     }
 }
 

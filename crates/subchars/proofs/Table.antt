@@ -12,8 +12,9 @@ use Rattle.ground.specs.Count.{every}
 use Rattle.ground.proofs.Tests.{and-left, and-right, not-true-false, never-both, or-elim}
 use Rattle.ground.proofs.Counting.{every-at}
 use Rattle.subchars.specs.declared.Mark.{Mark}
-use Rattle.subchars.specs.Pair.{classOf, opposite, Marked}
+use Rattle.subchars.specs.Pair.{classOf, opposite}
 use Rattle.subchars.proofs.Rules.{opposite-cases}
+use Rattle.subchars.specs.Steps.{Marked}
 
 abbrev mark : ℕ → ℕ → ℕ → Mark
 mark x k p = record { «sub_character» = record { 0 = x }; class = k; partner = record { 0 = p } }

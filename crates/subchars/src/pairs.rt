@@ -9,7 +9,8 @@ use crate::Smushing;
 use crate::SubCharacter;
 ghost use mathlib.Core.Path.{_≡_};
 ghost use Prim.Native.Nat.{ℕ, _<_};
-ghost use Rattle.subchars.specs.Pair.{joinedIf, joinedBy, bigX, Marked, Apart, Visible, number, inSet, itsRule, kept, controlled, later, universal, smushed, joint, isJoined, joins, byteOf};
+ghost use Rattle.subchars.specs.Pair.{joinedIf, joinedBy, bigX, number, inSet, controlled, later, universal, smushed, joint, isJoined, joins, byteOf};
+ghost use Rattle.subchars.specs.Steps.{Apart, Marked, Visible, itsRule, kept};
 
 const NONE: SubCharacter = SubCharacter(0);
 

@@ -18,9 +18,10 @@ use Rattle.flc.specs.declared.Command.{Command}
 use Rattle.flc.specs.declared.ControlAnswer.{ControlAnswer}
 use Rattle.flc.specs.declared.ControlAnswer.the-variants.{Read, Refused}
 use Rattle.flc.specs.Control.{Reading, refuses, control}
-use Rattle.flc.specs.Lists.{stageList, firstList, lastList, newList, Room, Holds, Listed}
-use Rattle.flc.specs.Mapping.{passing, passAll, Usable, ControlHeld, ControlTold}
+use Rattle.flc.specs.Lists.{stageList, firstList, lastList, newList}
 use Rattle.flc.proofs.HeldLaws.{told, mapped, usable as held-usable}
+use Rattle.flc.specs.Passing.{ControlHeld, Usable, passAll, passing, ControlHeldBy}
+use Rattle.flc.specs.Filling.{Holds, Listed, Room}
 use Rattle.wattleslate.specs.declared.MapAnswer.the-variants as Map
 use Rattle.wattleslate.specs.ControlCall.{controlTells, hasRoom, controlReading, controlTold}
 use Rattle.wattleslate.specs.MapCall.{mapTells, mappedBy, mapTold}
@@ -64,8 +65,8 @@ module _ (x y : Reading) (a : ControlAnswer) (ss : List ℕ) (fs ls ns : List �
 
 -- A code, by a file that was read into lists.
 module _ (s : List ℕ) (b : Bytes s) (r : ControlAnswer) (ss : List ℕ) (fs ls ns : List ℤ) (rs rf rl rn : ℕ) (l : Listed (control s) r ss fs ls ns rs rf rl rn) where
-  told-as : (a : ControlAnswer) → r ≡ a → ControlTold s a ss fs ls ns
-  told-as a e = subst (λ (x : ControlAnswer). ControlTold s x ss fs ls ns) e (told s b r ss fs ls ns rs rf rl rn l)
+  told-as : (a : ControlAnswer) → r ≡ a → ControlHeldBy s a ss fs ls ns
+  told-as a e = subst (λ (x : ControlAnswer). ControlHeldBy s x ss fs ls ns) e (told s b r ss fs ls ns rs rf rl rn l)
 
   module _ (n k : ℕ) (e : r ≡ Read n k) where
     held : ControlHeld s n ss fs ls ns

@@ -8,9 +8,10 @@ use native.Mathlib.Omega.{arith}
 use borrow.Author.Tests.{lt-ltb, le-ltb}
 use Rattle.ground.specs.Area.{zeros}
 use Rattle.ground.specs.Refusals.{refusal, areaTooSmall}
+use Rattle.ground.specs.Limits.{minScratch}
 use Rattle.drawing.specs.declared.DrawAnswer.{DrawAnswer}
 use Rattle.drawing.specs.Drawing.{Lined, unlined, linedOf, PutOut}
-use Rattle.wattleslate.specs.DrawCall.{drawTells, minScratch, drawLined, drawTold, drawOutput}
+use Rattle.wattleslate.specs.DrawCall.{drawTells, drawLined, drawTold, drawOutput}
 
 -- Zeros all through an area.
 pub wiped : (area : List ℕ) (n m : ℕ) → area ≡ zeros (n - 0) → n ≡ m → area ≡ zeros m

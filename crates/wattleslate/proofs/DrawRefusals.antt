@@ -7,7 +7,7 @@ use Prim.Native.Nat.{ℕ, _+_, _*_, _≤_, _<_}
 use lib.Dec.{ltb}
 use lib.ListN.{length}
 use borrow.Author.Tests.{ltb-true, ltb-false}
-use Rattle.ground.specs.Limits.{maxLineWidth}
+use Rattle.ground.specs.Limits.{maxLineWidth, maxText, minScratch}
 use Rattle.ground.specs.Refusals.{refusal, areaTooSmall, textTooLong, lineTooWide}
 use Rattle.ground.specs.declared.refusals.Refusal.{Refusal}
 use Rattle.figure.specs.Line.{outputOf}
@@ -19,9 +19,9 @@ use Rattle.flc.specs.declared.Command.{Command}
 use Rattle.flc.specs.Control as flc
 use Rattle.drawing.specs.declared.DrawAnswer.{DrawAnswer}
 use Rattle.drawing.specs.declared.DrawAnswer.the-variants.{Drawn, Refused}
-use Rattle.drawing.specs.Drawing.{maxText, lineOf, Lined, unlined, linedBy, linedOf, answering, answerOf}
+use Rattle.drawing.specs.Drawing.{lineOf, Lined, unlined, linedBy, linedOf, answering, answerOf}
 use Rattle.drawing.proofs.OutputLaws.{text-long, text-lined}
-use Rattle.wattleslate.specs.DrawCall.{minScratch, drawLined}
+use Rattle.wattleslate.specs.DrawCall.{drawLined}
 use Rattle.wattleslate.proofs.DrawCases.{lined-small, lined-enough}
 
 module _ (size : ℕ) (s control text : List ℕ) (room : ℕ) where

@@ -6,6 +6,7 @@ use mathlib.Core.List.{List}
 use lib.Dec.{ltb}
 use Rattle.ground.specs.Area.{padded}
 use Rattle.ground.specs.Refusals.{refusal, areaTooSmall}
+use Rattle.ground.specs.Limits.{minScratch}
 use Rattle.drawing.specs.declared.DrawAnswer.{DrawAnswer}
 use Rattle.drawing.specs.declared.DrawAnswer.the-variants.{Drawn, Refused}
 use Rattle.drawing.specs.Drawing.{Lined, unlined, linedOf, answerOf, bytesOf}
@@ -22,9 +23,6 @@ drawTells (Drawn w) = record { refused = false; number = 0; place = 0; width = w
 drawTells (Refused r) = record { refused = true; number = r .number; place = r .place; width = 0 }
 
 -- "Drawing: 9 for all working areas (scratch under 32,000 bytes included)", then the refusals of crate drawing, in their order.
-abbrev pub minScratch : ℕ
-minScratch = 32000
-
 unfoldable pub drawLined : ℕ → List ℕ → List ℕ → List ℕ → Lined
 drawLined scratch font control text = cond (ltb scratch minScratch) (unlined (refusal areaTooSmall 0)) (linedOf font control text)
 

@@ -1,5 +1,6 @@
 // Drawing in a scratch whose size is tested first.
 use drawing::DrawAnswer;
+use ground::limits;
 use ground::refusals;
 use ground::refusals::Refusal;
 ghost use lib.ListN.{length};
@@ -16,7 +17,7 @@ pub fn draw_tested(
 ) -> DrawAnswer
     ensures { λ a. ⌜ PutOut (drawLined (length (now (scratch .entry))) (now (font .entry)) (now (control .entry)) (now (text .entry))) (length (now (out .entry))) a (now (out .exit)) ⌝ }
 {
-    if scratch.len() < drawing::SCRATCH {
+    if scratch.len() < limits::MIN_SCRATCH {
         return drawing::refuse(
             Refusal {
                 number: refusals::AREA_TOO_SMALL,

@@ -6,7 +6,6 @@ mod joining;
 use chars::Entry;
 pub use drawing::DrawAnswer;
 // Reading a font into a lent index, and look-up in it.
-pub use entries::FontAnswer;
 pub use entries::find_in;
 pub use entries::read_font;
 use flc::ControlAnswer;
@@ -14,6 +13,7 @@ use flc::mapping;
 use ground::limits;
 use ground::refusals;
 use ground::refusals::Refusal;
+pub use reader::FontAnswer;
 use request::Requested;
 use request::Sought;
 use subchars::Code;

@@ -1,7 +1,7 @@
 -- `drawing::files_of` meets its contract.
 -- Assumes nothing.
 use mathlib.Core.Path.{sym, ap, ap₂}
-use Rattle.reader.specs.declared.FontStep.{FontStep}
+use Rattle.reader.specs.declared.FontAnswer.{FontAnswer}
 use Rattle.drawing.specs.Held.{filesOf}
 use borrow.Author.Needs.{needs}
 use Rattle.drawing.proofs.files_of.Statement.{statement}
@@ -26,7 +26,7 @@ returns-2 : tie.Need-returns-2
 returns-2 c = sym (ap₂ filesOf (c .before .before .before .before .font .given .1) (c .before .control2 .given .1))
 
 returns-3 : tie.Need-returns-3
-returns-3 c = sym (ap (λ (f : FontStep). filesOf f (c .before .before .before .args .control)) (c .before .font2 .given .1))
+returns-3 c = sym (ap (λ (f : FontAnswer). filesOf f (c .before .before .before .args .control)) (c .before .font2 .given .1))
 
 pub files-of-spec : {M : Type 1} → statement M
 files-of-spec =

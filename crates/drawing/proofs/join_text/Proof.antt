@@ -8,8 +8,9 @@ use lib.ListN.{length}
 use borrow.Author.Needs.{needs}
 use Rattle.font.specs.Font.{reading}
 use Rattle.reader.specs.Reader.{entriesOf}
-use Rattle.flc.specs.Mapping.{mapStages, ControlHeld}
+use Rattle.flc.specs.Mapping.{mapStages}
 use Rattle.flc.proofs.HeldLaws.{usable, mapped}
+use Rattle.flc.specs.Passing.{ControlHeld}
 use Rattle.drawing.proofs.CharacterLaws.{few-rows}
 use Rattle.drawing.proofs.TextLaws.{Toward, toward-first, toward-next, toward-beyond, toward-end}
 use Rattle.drawing.proofs.join_text.Statement.{statement}

@@ -52,16 +52,16 @@ use denote.Triple.Table.{entered, cited}
 use denote.Triple.Walked.{onExit, says, Stays, stay-slice, stay-none-slice, walkOf, Walks, ends-at, walked, goes-slice, goes-none-slice, walk-meets}
 use denote.Exit.{yes}
 use Rattle.chars.specs.declared.Entry.{Entry}
-use Rattle.chars.specs.Chars.{maxCharacters}
 use Rattle.chars.proofs.Entry as E
 use Rattle.chars.proofs.Entry.Laws as E′
 use Rattle.font.specs.Font.{Reading}
-use Rattle.entries.specs.declared.FontAnswer.{FontAnswer}
+use Rattle.reader.specs.declared.FontAnswer.{FontAnswer}
+use Rattle.reader.specs.Reader.{answerOf}
 use Rattle.entries.specs.declared.listing.Listed.{Listed}
-use Rattle.entries.specs.Filling.{fontReading, zeroEntry, indexOf, answerOf, fontTells, fontTold}
+use Rattle.entries.specs.Filling.{fontReading, zeroEntry, indexOf, fontTells, fontTold}
 use Rattle.entries.specs.Steps.{listedOf}
-use Rattle.entries.proofs.FontAnswer as F
-use Rattle.entries.proofs.FontAnswer.Laws as F′
+use Rattle.reader.proofs.FontAnswer as F
+use Rattle.reader.proofs.FontAnswer.Laws as F′
 use Rattle.entries.proofs.listing.Listed as L
 use Rattle.entries.proofs.listing.Listed.Laws as L′
 use Rattle.entries.proofs.Row.{R, val, vals, tells, place-24, step-fits, next-fits, makes, typed}
@@ -74,6 +74,7 @@ use Rattle.entries.proofs.CallSmaller.{Smaller}
 use Rattle.ground.proofs.smaller.Symbol as smaller-def
 use Rattle.ground.proofs.smaller.Symbol.{name as #ground·smaller}
 use Rattle.ground.proofs.smaller.Met as smaller-thm
+use Rattle.ground.specs.Limits.{maxCharacters}
 use Rattle.entries.proofs.listing.list_font as list-font
 use Rattle.entries.proofs.listing.list_font.Symbol as list-font-def
 use Rattle.entries.proofs.listing.list_font.Symbol.{name as #entries·list-font}

@@ -9,7 +9,7 @@ use lib.IntN.{ℤ}
 use lib.ListN.{set}
 use mir.Syntax.{w32}
 use mir.Val.{toZ, ofZ}
-use Rattle.chars.specs.Chars.{maxCharacters}
+use Rattle.ground.specs.Limits.{maxCharacters}
 use Rattle.index.proofs.FillLaws.{listed-room, Held, held-none, held-more, held-done, held-failed}
 use Rattle.index.proofs.fill.Statement.{statement}
 use Rattle.index.proofs.fill.Tie as tie

@@ -7,10 +7,11 @@ use native.Mathlib.Omega.{arith}
 use lib.ListN.{length}
 use borrow.Author.Needs.{needs}
 use Rattle.lanes.specs.Blocks.{Block, startOf, block}
-use Rattle.lanes.specs.Overlap.{fitting, Leading, Trailing}
+use Rattle.lanes.specs.Overlap.{fitting}
 use Rattle.lanes.proofs.Fitting.{fitting-none, fitting-lane, fitting-le}
 use Rattle.lanes.proofs.fitting_overlap.Statement.{statement}
 use Rattle.lanes.proofs.fitting_overlap.Tie as tie
+use Rattle.lanes.specs.Blanks.{Leading, Trailing}
 
 abbrev Inv-loop : tie.InvT-loop
 Inv-loop first a-starts a second b-starts b h n m best₀ r₀ best r = (r ≤ h) × (best ≡ fitting r (a .len) (b .len) (block first a-starts a) (block second b-starts b))

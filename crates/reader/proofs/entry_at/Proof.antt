@@ -24,22 +24,22 @@ inside : (c : tie.After-known-told) → c .before .found .given .0 .0 < c .befor
 inside c = subst (Within (c .before .before .before .args .count)) (c .before .found .given .1) (c .before .before .before .pre .1)
 
 mul-t8 : tie.Need-mul-t8
-mul-t8 c = omega (arith, inside c, c .before .before .before .pre .0 .in-codes)
+mul-t8 c = omega (arith, inside c, c .before .before .before .pre .0 .for-codes)
 
 shared-slice-copy-out-t10 : tie.Need-shared-slice-copy-out-t10
-shared-slice-copy-out-t10 c = omega (arith, inside c, c .before .before .before .pre .0 .in-codes)
+shared-slice-copy-out-t10 c = omega (arith, inside c, c .before .before .before .pre .0 .for-codes)
 
 mul-t12 : tie.Need-mul-t12
-mul-t12 c = omega (arith, inside (c .before), c .before .before .before .before .pre .0 .in-starts)
+mul-t12 c = omega (arith, inside (c .before), c .before .before .before .before .pre .0 .for-starts)
 
 shared-slice-read-t14 : tie.Need-shared-slice-read-t14
-shared-slice-read-t14 c = omega (arith, inside (c .before .before), c .before .before .before .before .before .pre .0 .in-starts)
+shared-slice-read-t14 c = omega (arith, inside (c .before .before), c .before .before .before .before .before .pre .0 .for-starts)
 
 mul-t15 : tie.Need-mul-t15
-mul-t15 c = omega (arith, inside (c .before .before), c .before .before .before .before .before .pre .0 .in-widths)
+mul-t15 c = omega (arith, inside (c .before .before), c .before .before .before .before .before .pre .0 .for-widths)
 
 shared-slice-read-t17 : tie.Need-shared-slice-read-t17
-shared-slice-read-t17 c = omega (arith, inside (c .before .before .before), c .before .before .before .before .before .before .pre .0 .in-widths)
+shared-slice-read-t17 c = omega (arith, inside (c .before .before .before), c .before .before .before .before .before .before .pre .0 .for-widths)
 
 enum-told : tie.Need-enum-told
 enum-told c = search needs

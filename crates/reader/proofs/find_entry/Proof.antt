@@ -8,13 +8,13 @@ use Rattle.reader.proofs.find_entry.Statement.{statement}
 use Rattle.reader.proofs.find_entry.Tie as tie
 
 slice-aggregate-look-up : tie.Need-slice-aggregate-look-up
-slice-aggregate-look-up c = sym (length-take-le _ _ (c .before .before .before .pre .in-codes))
+slice-aggregate-look-up c = sym (length-take-le _ _ (c .before .before .before .pre .for-codes))
 
 look-up-requires : tie.Need-look-up-requires
 look-up-requires c κs = search needs
 
 entry-at-requires : tie.Need-entry-at-requires
-entry-at-requires c κs = (c .before .before .before .before .pre, found-within (c .before .before .before .before .args .code) (c .before .before .before .before .args .codes .now) _ _ (c .look-up .ensures) (c .before .before .before .before .pre .in-codes))
+entry-at-requires c κs = (c .before .before .before .before .pre, found-within (c .before .before .before .before .args .code) (c .before .before .before .before .args .codes .now) _ _ (c .look-up .ensures) (c .before .before .before .before .pre .for-codes))
 
 returns : tie.Need-returns
 returns c =

@@ -8,13 +8,13 @@ use Rattle.reader.proofs.find_known.Statement.{statement}
 use Rattle.reader.proofs.find_known.Tie as tie
 
 slice-aggregate-look-up : tie.Need-slice-aggregate-look-up
-slice-aggregate-look-up c = sym (length-take-le _ _ (c .before .before .before .before .pre .0 .in-codes))
+slice-aggregate-look-up c = sym (length-take-le _ _ (c .before .before .before .before .pre .0 .for-codes))
 
 look-up-requires : tie.Need-look-up-requires
 look-up-requires c κs = search needs
 
 entry-at-requires : tie.Need-entry-at-requires
-entry-at-requires c κs = (c .before .before .before .before .before .pre .0, found-within (c .before .before .before .before .before .args .code) (c .before .before .before .before .before .args .codes .now) _ _ (c .look-up .ensures) (c .before .before .before .before .before .pre .0 .in-codes))
+entry-at-requires c κs = (c .before .before .before .before .before .pre .0, found-within (c .before .before .before .before .before .args .code) (c .before .before .before .before .before .args .codes .now) _ _ (c .look-up .ensures) (c .before .before .before .before .before .pre .0 .for-codes))
 
 returns : tie.Need-returns
 returns c =

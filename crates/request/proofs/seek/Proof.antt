@@ -36,7 +36,7 @@ slice-aggregate-find-entry-3 c = search needs
 find-entry-requires : tie.Need-find-entry-requires
 find-entry-requires c κs =
     let n = few (reading (c .before .before .before .before .before .before .before .before .before .before .before .before .before .before .args .font .now)) (c .before .before .before .before .before .before .before .before .before .before .before .before .before .before .args .code) _ _ _ _ (c .before .before .before .before .before .before .before .before .before .read-lists .ensures) _ _ (c .before .before .before .before .header .given .1) in
-    record { in-codes = omega arith; in-starts = omega arith; in-widths = omega arith }
+    record { for-codes = omega arith; for-starts = omega arith; for-widths = omega arith }
 
 enum-known-entry : tie.Need-enum-known-entry
 enum-known-entry c = search needs

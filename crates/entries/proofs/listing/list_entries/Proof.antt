@@ -12,7 +12,7 @@ use borrow.Author.Needs.{needs}
 use Rattle.chars.specs.declared.Entry.{Entry}
 use Rattle.chars.specs.Codes.{code}
 use Rattle.chars.specs.Chars.{entry}
-use Rattle.reader.specs.Reader.{Lists}
+use Rattle.index.specs.Index.{Lists}
 use Rattle.entries.specs.Filling.{zeroEntry}
 use Rattle.entries.proofs.Moved.{moved}
 use Rattle.entries.proofs.FillLaws.{listed-next, listed-all}

@@ -44,7 +44,7 @@ list-entries-requires : tie.Need-list-entries-requires
 list-entries-requires c κs =
     let s = c .before .before .before .before .before .before .before .before .before .before .before .before .before .before .before .args .font .now in
     let few = read-few (reading s) _ _ _ _ (c .before .before .before .before .before .before .before .before .before .read-lists .ensures) _ _ (c .before .before .before .before .header .given .1) in
-    (record { in-codes = omega arith; in-starts = omega arith; in-widths = omega arith }, omega arith)
+    (record { for-codes = omega arith; for-starts = omega arith; for-widths = omega arith }, omega arith)
 
 enum-known-r : tie.Need-enum-known-r
 enum-known-r c = search needs

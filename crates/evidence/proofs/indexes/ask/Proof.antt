@@ -59,10 +59,10 @@ use Rattle.chars.proofs.Entry.Laws as E′
 use Rattle.reader.specs.declared.Use.{Use}
 use Rattle.reader.proofs.Use as U
 use Rattle.reader.proofs.Use.Laws as U′
-use Rattle.entries.specs.declared.FontAnswer.{FontAnswer}
+use Rattle.reader.specs.declared.FontAnswer.{FontAnswer}
 use Rattle.entries.specs.Filling.{zeroEntry}
-use Rattle.entries.proofs.FontAnswer as F
-use Rattle.entries.proofs.FontAnswer.Laws as F′
+use Rattle.reader.proofs.FontAnswer as F
+use Rattle.reader.proofs.FontAnswer.Laws as F′
 use Rattle.entries.proofs.Row.{R, val, vals, tells, place-24, makes, typed}
 use Rattle.entries.proofs.Local.{lies-row, row-room}
 use Rattle.entries.proofs.read_font as read-font

@@ -16,9 +16,9 @@ use Rattle.lines.specs.declared.numbers.Number.{Number}
 use Rattle.lines.specs.declared.numbers.Number.the-variants.{Value, NotNumber}
 use Rattle.lines.proofs.WordLaws.{found-order, found-within, found-word}
 use Rattle.header.specs.declared.WordStep.the-variants.{Word, NoWord}
-use Rattle.header.specs.Header.{wordNext, wordStep}
 use Rattle.header.proofs.reading.next_number.Statement.{statement}
 use Rattle.header.proofs.reading.next_number.Tie as tie
+use Rattle.header.specs.Steps.{wordNext, wordStep}
 
 module _ (t : List ℕ) (at start end : ℕ) (h : at ≤ length t) (p : start ≡ wordStart (take (length t - at) (drop at t))) (q : end ≡ wordEnd (take (length t - at) (drop at t))) where
   abbrev rest : List ℕ
