@@ -1,2 +1,3 @@
 -- The laws of the calls for programs in C and Rust.
 pub mod JoinLaws
+pub mod Bounds

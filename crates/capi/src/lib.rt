@@ -18,31 +18,22 @@ ghost use Rattle.flc.specs.Control.{control};
 ghost use Rattle.reader.specs.Reader.{answerOf};
 ghost use Rattle.wattleslate.specs.ControlCall.{controlTold};
 ghost use Rattle.wattleslate.specs.DrawCall.{drawTold, drawOutput};
-ghost use Rattle.capi.specs.Numbers.{packed, paired, directionBy, fontNumber, controlNumber, drawNumber, joinNumber, joinTaken, joinLeft};
+ghost use Rattle.capi.specs.Numbers.{packed, Packs, paired, Pairs, fontNumber, controlNumber, drawNumber, joinNumber, joinTaken, joinLeft};
 
 // A refusal's number above a place, or 0 above a value.
 fn packed(number: usize, low: usize) -> u64
+    requires { ⌜ Packs number low ⌝ }
     ensures { λ r. ⌜ r ≡ packed number low ⌝ }
 {
-    (number % 256) as u64 * 4294967296 + (low % 4294967296) as u64
+    number as u64 * 4294967296 + low as u64
 }
 
 // Two values in one.
 fn paired(high: usize, low: usize) -> usize
+    requires { ⌜ Pairs high low ⌝ }
     ensures { λ r. ⌜ r ≡ paired high low ⌝ }
 {
-    high % 65536 * 65536 + low % 65536
-}
-
-// The direction of a Print_Direction.
-fn direction_of(n: usize) -> Direction
-    ensures { λ d. ⌜ d ≡ directionBy n ⌝ }
-{
-    if n == 1 {
-        Direction::RightToLeft
-    } else {
-        Direction::LeftToRight
-    }
+    high * 65536 + low
 }
 
 // Reads a font, and answers its height and how many characters it has. Refusals 1 to 8.
@@ -131,7 +122,7 @@ pub extern "C" fn wattleslate_join(
         height,
         SubCharacter(hardblank),
         Layout::from_full(layout),
-        direction_of(direction),
+        Direction::from_print(direction),
         out,
     ) {
         JoinAnswer::Joined { overlap, width } => packed(0, paired(overlap, width)),

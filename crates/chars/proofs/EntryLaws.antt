@@ -14,10 +14,11 @@ use Rattle.ground.specs.declared.refusals.Refusal.{Refusal}
 use Rattle.ground.specs.Limits.{maxCharacters}
 use Rattle.subchars.specs.declared.Code.{Code}
 use Rattle.lines.specs.Lines.{TextLine}
+use Rattle.lines.proofs.StartLaws.{Starting, start-first, start-rest, start-dropped}
 use Rattle.rows.specs.declared.Format.{Format}
 use Rattle.rows.specs.Rows.{Rows, read, refused, character, lineCount}
 use Rattle.rows.proofs.RowLaws.{AllRead, character-read}
-use Rattle.rows.proofs.RefusalLaws.{refused-numbers}
+use Rattle.rows.proofs.RefusalLaws.{refused-numbers, refused-place}
 use Rattle.chars.specs.declared.Entry.{Entry}
 use Rattle.chars.specs.declared.TagStep.{TagStep}
 use Rattle.chars.specs.declared.TagStep.the-variants.{Tag, BadTag}
@@ -93,43 +94,45 @@ listing-sound f size (c ∷ cs) n ls h =
     character-sound f size n (code (pos c)) ls (listing f size cs (suc n) (drop (lineCount f) ls)) (omega arith)
     (record { few = more .few; rows = each-dropped f (lineCount f) ls (listing f size cs (suc n) (drop (lineCount f) ls) .entries) (more .rows) })
 
--- Characters are stopped by 5 to 8, and by nothing else.
-pub data Stops : Ending → Type 0 where
-  end : Stops finished
-  by : (r : Refusal) → 5 ≤ r .number → r .number ≤ 8 → Stops (stopped r)
+-- Characters are stopped by 5 to 8, and by nothing else, at a place within the font or at its end.
+pub data Stops (size : ℕ) : Ending → Type 0 where
+  end : Stops size finished
+  by : (r : Refusal) → 5 ≤ r .number → r .number ≤ 8 → r .place ≤ size → Stops size (stopped r)
 
-character-stops : (f : Format) (size : ℕ) (c : Code) (ls : List TextLine) (more : Listing) → Stops (more .ending) → Stops (characterThen f size c ls more .ending)
-character-stops f size c [] more s = by (refusal missingLine size) (omega arith) (omega arith)
-character-stops f size c (l ∷ ls) more s = go (character f size (l ∷ ls)) refl
+character-stops : (f : Format) (size : ℕ) (c : Code) (ls : List TextLine) (more : Listing) → Starting size ls → Stops size (more .ending) → Stops size (characterThen f size c ls more .ending)
+character-stops f size c [] more t s = by (refusal missingLine size) (omega arith) (omega arith) (omega arith)
+character-stops f size c (l ∷ ls) more t s = go (character f size (l ∷ ls)) refl
   where
-    go : (v : Rows) → character f size (l ∷ ls) ≡ v → Stops (listed v c (l .start) more .ending)
+    go : (v : Rows) → character f size (l ∷ ls) ≡ v → Stops size (listed v c (l .start) more .ending)
     go (read w) e = s
-    go (refused r) e = let n = refused-numbers f size (l ∷ ls) r e in by r (n .0) (omega (arith, n .1))
+    go (refused r) e = let n = refused-numbers f size (l ∷ ls) r e in by r (n .0) (omega (arith, n .1)) (refused-place f size (l ∷ ls) r t e)
 
-bad-tag-stops : (p : ℕ) → Stops (stopped (refusal badCodeTag p))
-bad-tag-stops p = by (refusal badCodeTag p) (omega arith) (omega arith)
-
-tagged-stops : (f : Format) (size k n : ℕ) (ls : List TextLine) → Stops (taggedFrom f size k n ls .ending)
+tagged-stops : (f : Format) (size k n : ℕ) (ls : List TextLine) → Starting size ls → Stops size (taggedFrom f size k n ls .ending)
 unfolding taggedFrom
-tagged-stops f size k n [] = end
-tagged-stops f size (suc k) n (l ∷ ls) = tagged-stops f size k n ls
-tagged-stops f size zero n (l ∷ ls) = go (blankLines (l ∷ ls)) (tagOf (l .text)) (tagged-stops f size (lineCount f) (suc n) ls)
+tagged-stops f size k n [] t = end
+tagged-stops f size (suc k) n (l ∷ ls) t = tagged-stops f size k n ls (start-rest size l ls t)
+tagged-stops f size zero n (l ∷ ls) t = go (blankLines (l ∷ ls)) (tagOf (l .text)) (tagged-stops f size (lineCount f) (suc n) ls (start-rest size l ls t))
   where
-    room : (c : Code) (b : Bool) → Stops (taggedFrom f size (lineCount f) (suc n) ls .ending) →
-        Stops (cond b (characterThen f size c ls (taggedFrom f size (lineCount f) (suc n) ls)) (ends (stopped (refusal tooManyCharacters (l .start)))) .ending)
-    room c true s = character-stops f size c ls (taggedFrom f size (lineCount f) (suc n) ls) s
-    room c false s = by (refusal tooManyCharacters (l .start)) (omega arith) (omega arith)
+    here : (number : ℕ) → 5 ≤ number → number ≤ 8 → Stops size (stopped (refusal number (l .start)))
+    here number a b = by (refusal number (l .start)) a b (start-first size l ls t)
 
-    tag : (t : TagStep) → Stops (taggedFrom f size (lineCount f) (suc n) ls .ending) → Stops (tagged t f size (l .start) n ls (taggedFrom f size (lineCount f) (suc n) ls) .ending)
-    tag BadTag s = bad-tag-stops _
+    room : (c : Code) (b : Bool) → Stops size (taggedFrom f size (lineCount f) (suc n) ls .ending) →
+        Stops size (cond b (characterThen f size c ls (taggedFrom f size (lineCount f) (suc n) ls)) (ends (stopped (refusal tooManyCharacters (l .start)))) .ending)
+    room c true s = character-stops f size c ls (taggedFrom f size (lineCount f) (suc n) ls) (start-rest size l ls t) s
+    room c false s = here tooManyCharacters (omega arith) (omega arith)
+
+    tag : (x : TagStep) → Stops size (taggedFrom f size (lineCount f) (suc n) ls .ending) → Stops size (tagged x f size (l .start) n ls (taggedFrom f size (lineCount f) (suc n) ls) .ending)
+    tag BadTag s = here badCodeTag (omega arith) (omega arith)
     tag (Tag c) s = room c (ltb n maxCharacters) s
 
-    go : (b : Bool) (t : TagStep) → Stops (taggedFrom f size (lineCount f) (suc n) ls .ending) →
-        Stops (cond b (ends finished) (tagged t f size (l .start) n ls (taggedFrom f size (lineCount f) (suc n) ls)) .ending)
-    go true t s = end
-    go false t s = tag t s
+    go : (b : Bool) (x : TagStep) → Stops size (taggedFrom f size (lineCount f) (suc n) ls .ending) →
+        Stops size (cond b (ends finished) (tagged x f size (l .start) n ls (taggedFrom f size (lineCount f) (suc n) ls)) .ending)
+    go true x s = end
+    go false x s = tag x s
 
-pub listing-stops : (f : Format) (size : ℕ) (cs : List ℕ) (n : ℕ) (ls : List TextLine) → Stops (listing f size cs n ls .ending)
+pub listing-stops : (f : Format) (size : ℕ) (cs : List ℕ) (n : ℕ) (ls : List TextLine) → Starting size ls → Stops size (listing f size cs n ls .ending)
 unfolding listing
-listing-stops f size [] n ls = tagged-stops f size 0 n ls
-listing-stops f size (c ∷ cs) n ls = character-stops f size (code (pos c)) ls (listing f size cs (suc n) (drop (lineCount f) ls)) (listing-stops f size cs (suc n) (drop (lineCount f) ls))
+listing-stops f size [] n ls t = tagged-stops f size 0 n ls t
+listing-stops f size (c ∷ cs) n ls t =
+    character-stops f size (code (pos c)) ls (listing f size cs (suc n) (drop (lineCount f) ls)) t
+    (listing-stops f size cs (suc n) (drop (lineCount f) ls) (start-dropped size (lineCount f) ls t))

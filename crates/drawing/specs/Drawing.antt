@@ -5,7 +5,7 @@ use mathlib.Core.Path.{_≡_}
 use Prim.Native.Nat.{ℕ, _+_}
 use mathlib.Core.Bool.{cond}
 use mathlib.Core.List.{List, [], _∷_, map}
-use lib.Dec.{eqb, ltb}
+use lib.Dec.{ltb}
 use lib.IntN.{pos}
 use lib.ListN.{length, getD}
 use Rattle.ground.specs.Area.{padded}
@@ -14,8 +14,9 @@ use Rattle.ground.specs.declared.refusals.Refusal.{Refusal}
 use Rattle.ground.specs.Limits.{maxText}
 use Rattle.subchars.specs.declared.Code.{Code}
 use Rattle.subchars.specs.declared.Direction.{Direction}
-use Rattle.subchars.specs.declared.Direction.the-variants.{LeftToRight, RightToLeft}
+use Rattle.subchars.specs.declared.Direction.the-variants.{LeftToRight}
 use Rattle.subchars.specs.declared.Mode.{Mode}
+use Rattle.subchars.specs.Layouts.{printDirection}
 use Rattle.join.specs.Join.{Figure}
 use Rattle.figure.specs.declared.Output.{Output}
 use Rattle.figure.specs.declared.Output.the-variants as out
@@ -56,7 +57,7 @@ drawnEntries characters (c ∷ cs) = withUsed (used c characters) (drawnEntries 
 -- 4. "Joins in turn, at the right if Print_Direction is 0 or absent, at the left if 1": by the join of the call `join`.
 abbrev pub directionOf : Given → Direction
 directionOf Absent = LeftToRight
-directionOf (Of n) = cond (eqb n 1) RightToLeft LeftToRight
+directionOf (Of n) = printDirection n
 
 unfoldable pub modeOf : Header → Mode
 modeOf h = record { layout = h .layout; direction = directionOf (h .«print_direction»); hardblank = h .hardblank }

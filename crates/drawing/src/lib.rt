@@ -53,18 +53,13 @@ pub enum DrawAnswer {
     Refused(Refusal),
 }
 
-// The direction of a Print_Direction.
+// The direction of a header: left to right where Print_Direction is absent.
 fn direction_of(given: Given) -> Direction
     ensures { λ r. ⌜ r ≡ directionOf given ⌝ }
 {
     match given {
         Given::Absent => Direction::LeftToRight,
-        Given::Of(n) => {
-            if n == 1 {
-                return Direction::RightToLeft;
-            }
-            Direction::LeftToRight
-        }
+        Given::Of(n) => Direction::from_print(n),
     }
 }
 

@@ -14,6 +14,7 @@ use Rattle.ground.specs.declared.refusals.Refusal.{Refusal}
 use Rattle.ground.proofs.Tests.{clash}
 use Rattle.ground.specs.Limits.{maxCharacters, maxFontLength}
 use Rattle.lines.specs.Lines.{TextLine, linesFrom}
+use Rattle.lines.proofs.StartLaws.{Starting, start-rest, start-dropped, lines-start}
 use Rattle.header.specs.declared.Header.{Header}
 use Rattle.header.specs.declared.HeaderStep.{HeaderStep}
 use Rattle.header.specs.declared.HeaderStep.the-variants.{Good, Refused}
@@ -37,28 +38,32 @@ place-of : Reading → ℕ
 place-of (says h es) = 0
 place-of (refuses r) = r .place
 
--- Behind the header a font is refused by 5 to 8.
-stop-numbers : (q : Refusal) → Stops (stopped q) → (5 ≤ q .number) × (q .number ≤ 8)
-stop-numbers q (by r l u) = (l, u)
+-- Behind the header a font is refused by 5 to 8, at a place within it or at its end.
+stop-numbers : (size : ℕ) (q : Refusal) → Stops size (stopped q) → (5 ≤ q .number) × (q .number ≤ 8) × (q .place ≤ size)
+stop-numbers size q (by r l u p) = (l, u, p)
 
-ended-numbers : (h : Header) (en : Ending) (es : List Entry) (r : Refusal) → Stops en → readingOf h en es ≡ refuses r → (5 ≤ r .number) × (r .number ≤ 8)
-unfolding number-of
-ended-numbers h finished es r s e = clash (cc)
-ended-numbers h (stopped q) es r s e =
+ended-numbers : (h : Header) (size : ℕ) (en : Ending) (es : List Entry) (r : Refusal) → Stops size en → readingOf h en es ≡ refuses r → (5 ≤ r .number) × (r .number ≤ 8) × (r .place ≤ size)
+unfolding number-of place-of
+ended-numbers h size finished es r s e = clash (cc)
+ended-numbers h size (stopped q) es r s e =
     let n = ap number-of e in
-    let b = stop-numbers q s in
-    (omega (arith, b .0), omega (arith, b .1))
+    let p = ap place-of e in
+    let b = stop-numbers size q s in
+    (omega (arith, b .0), omega (arith, b .1), omega (arith, b .2))
 
-behind-numbers : (h : Header) (size : ℕ) (ls : List TextLine) (r : Refusal) → afterHeader (Good h) size ls ≡ refuses r → (5 ≤ r .number) × (r .number ≤ 8)
-unfolding number-of
-behind-numbers h size ls r e = go (leb (h .«comment_lines») (length ls)) e
+behind-numbers : (h : Header) (size : ℕ) (ls : List TextLine) (r : Refusal) → Starting size ls → afterHeader (Good h) size ls ≡ refuses r → (5 ≤ r .number) × (r .number ≤ 8) × (r .place ≤ size)
+unfolding number-of place-of
+behind-numbers h size ls r t e = go (leb (h .«comment_lines») (length ls)) e
   where
     x : Listing
     x = listing (format h) size requiredCodes 0 (drop (h .«comment_lines») ls)
 
-    go : (b : Bool) → cond b (withCharacters h x) (refuses (refusal missingLine size)) ≡ refuses r → (5 ≤ r .number) × (r .number ≤ 8)
-    go true q = ended-numbers h (x .ending) (x .entries) r (listing-stops (format h) size requiredCodes 0 (drop (h .«comment_lines») ls)) q
-    go false q = let n = ap number-of q in (omega arith, omega arith)
+    go : (b : Bool) → cond b (withCharacters h x) (refuses (refusal missingLine size)) ≡ refuses r → (5 ≤ r .number) × (r .number ≤ 8) × (r .place ≤ size)
+    go true q = ended-numbers h size (x .ending) (x .entries) r (listing-stops (format h) size requiredCodes 0 (drop (h .«comment_lines») ls) (start-dropped size (h .«comment_lines») ls t)) q
+    go false q =
+        let n = ap number-of q in
+        let p = ap place-of q in
+        (omega arith, omega arith, omega arith)
 
 -- The refusals that a font's first line has: 2 where there is none.
 abbrev pub HeaderBad : Refusal → List TextLine → Type 0
@@ -66,25 +71,29 @@ HeaderBad r [] = r ≡ refusal noSignature 0
 HeaderBad r (l ∷ ls) = readHeader (l .text) ≡ Refused r
 
 -- a refusal of the lines is one of the header, or one of 5 to 8
-lines-refused : (size : ℕ) (ls : List TextLine) (r : Refusal) → onLines size ls ≡ refuses r → r .number ≤ 4 → HeaderBad r ls
-lines-refused size [] r e h = cc
-lines-refused size (l ∷ ls) r e h = go (readHeader (l .text)) refl e
+lines-refused : (size : ℕ) (ls : List TextLine) (r : Refusal) → Starting size ls → onLines size ls ≡ refuses r → r .number ≤ 4 → HeaderBad r ls
+lines-refused size [] r t e h = cc
+lines-refused size (l ∷ ls) r t e h = go (readHeader (l .text)) refl e
   where
     go : (x : HeaderStep) → readHeader (l .text) ≡ x → afterHeader x size ls ≡ refuses r → readHeader (l .text) ≡ Refused r
     go (Refused q) p y = p ∙ ap Refused (cc)
-    go (Good g) p y = absurd (omega (arith, behind-numbers g size ls r y .0))
+    go (Good g) p y = absurd (omega (arith, behind-numbers g size ls r (start-rest size l ls t) y .0))
 
-lines-numbers : (size : ℕ) (ls : List TextLine) (r : Refusal) → onLines size ls ≡ refuses r → (2 ≤ r .number) × (r .number ≤ 8)
-unfolding number-of
-lines-numbers size [] r e = let n = ap number-of e in (omega arith, omega arith)
-lines-numbers size (l ∷ ls) r e = go (readHeader (l .text)) refl e
+lines-numbers : (size : ℕ) (ls : List TextLine) (r : Refusal) → Starting size ls → onLines size ls ≡ refuses r → (2 ≤ r .number) × (r .number ≤ 8) × (r .place ≤ size)
+unfolding number-of place-of
+lines-numbers size [] r t e =
+    let n = ap number-of e in
+    let p = ap place-of e in
+    (omega arith, omega arith, omega arith)
+lines-numbers size (l ∷ ls) r t e = go (readHeader (l .text)) refl e
   where
-    go : (x : HeaderStep) → readHeader (l .text) ≡ x → afterHeader x size ls ≡ refuses r → (2 ≤ r .number) × (r .number ≤ 8)
+    go : (x : HeaderStep) → readHeader (l .text) ≡ x → afterHeader x size ls ≡ refuses r → (2 ≤ r .number) × (r .number ≤ 8) × (r .place ≤ size)
     go (Refused q) p y =
         let n = ap number-of y in
+        let m = ap place-of y in
         let k = header-refusal (l .text) q p in
-        (omega (arith, k .low), omega (arith, k .high))
-    go (Good g) p y = let n = behind-numbers g size ls r y in (omega (arith, n .0), n .1)
+        (omega (arith, k .low), omega (arith, k .high), omega (arith, k .place))
+    go (Good g) p y = let n = behind-numbers g size ls r (start-rest size l ls t) y in (omega (arith, n .0), n .1, n .2)
 
 is-bad : (size : ℕ) (ls : List TextLine) (r : Refusal) → HeaderBad r ls → onLines size ls ≡ refuses r
 is-bad size [] r e = ap refuses (sym e)
@@ -111,7 +120,7 @@ module _ (s : List ℕ) where
           go true h =
               let l = ltb-true maxFontLength (length s) h in
               (sym (ap place-of (sym (long-is l) ∙ e)), l)
-          go false h = absurd (omega (arith, lines-numbers (length s) (linesFrom s 0) (refusal fontTooLong p) (sym (short-is (ltb-false maxFontLength (length s) h)) ∙ e) .0))
+          go false h = absurd (omega (arith, lines-numbers (length s) (linesFrom s 0) (refusal fontTooLong p) (lines-start s) (sym (short-is (ltb-false maxFontLength (length s) h)) ∙ e) .0))
 
       from : (p ≡ 0) × (maxFontLength < length s) → reading s ≡ refuses (refusal fontTooLong p)
       from w = long-is (w .1) ∙ ap (λ (j : ℕ). refuses (refusal fontTooLong j)) (sym (w .0))
@@ -128,18 +137,23 @@ module _ (s : List ℕ) where
           go true h = let n = ap number-of (sym (long-is (ltb-true maxFontLength (length s) h)) ∙ e) in absurd (omega arith)
           go false h =
               let k = ltb-false maxFontLength (length s) h in
-              (k, lines-refused (length s) (linesFrom s 0) r (sym (short-is k) ∙ e) u)
+              (k, lines-refused (length s) (linesFrom s 0) r (lines-start s) (sym (short-is k) ∙ e) u)
 
-  -- a font is refused by 1 to 8
-  pub font-refusal : (r : Refusal) → reading s ≡ refuses r → (1 ≤ r .number) × (r .number ≤ 8)
-  unfolding number-of
+  -- a font is refused by 1 to 8, at a place within it or at its end
+  pub font-refusal : (r : Refusal) → reading s ≡ refuses r → (1 ≤ r .number) × (r .number ≤ 8) × (r .place ≤ length s) × (r .place ≤ maxFontLength)
+  unfolding number-of place-of
   font-refusal r e = go (ltb maxFontLength (length s)) refl
     where
-      go : (b : Bool) → ltb maxFontLength (length s) ≡ b → (1 ≤ r .number) × (r .number ≤ 8)
-      go true h = let n = ap number-of (sym (long-is (ltb-true maxFontLength (length s) h)) ∙ e) in (omega arith, omega arith)
+      go : (b : Bool) → ltb maxFontLength (length s) ≡ b → (1 ≤ r .number) × (r .number ≤ 8) × (r .place ≤ length s) × (r .place ≤ maxFontLength)
+      go true h =
+          let is = sym (long-is (ltb-true maxFontLength (length s) h)) ∙ e in
+          let n = ap number-of is in
+          let p = ap place-of is in
+          (omega arith, omega arith, omega arith, omega arith)
       go false h =
-          let n = lines-numbers (length s) (linesFrom s 0) r (sym (short-is (ltb-false maxFontLength (length s) h)) ∙ e) in
-          (omega (arith, n .0), n .1)
+          let k = ltb-false maxFontLength (length s) h in
+          let n = lines-numbers (length s) (linesFrom s 0) r (lines-start s) (sym (short-is k) ∙ e) in
+          (omega (arith, n .0), n .1, n .2, omega (arith, n .2, k))
 
   -- A font that is read.
   pub record FontRead (h : Header) (es : List Entry) : Type 0 where

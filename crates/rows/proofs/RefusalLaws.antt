@@ -12,6 +12,7 @@ use Rattle.ground.specs.Refusals.{refusal, missingLine, badRow}
 use Rattle.ground.specs.declared.refusals.Refusal.{Refusal}
 use Rattle.ground.proofs.Tests.{and-left, and-right, and-both, clash}
 use Rattle.lines.specs.Lines.{TextLine}
+use Rattle.lines.proofs.StartLaws.{Starting, start-first, start-rest}
 use Rattle.rows.specs.declared.Format.{Format}
 use Rattle.rows.specs.declared.RowStep.{RowStep}
 use Rattle.rows.specs.declared.RowStep.the-variants.{Width, BadRow}
@@ -150,3 +151,23 @@ module _ (f : Format) (size : ℕ) where
       go : (x : RowStep) → otherRows f size (l .start) x ls ≡ refused r → (5 ≤ r .number) × (r .number ≤ 6)
       go (Width w) q = rows-numbers (f .height - 1) w ls r q
       go BadRow q = let n = ap number-of q in (omega arith, omega arith)
+
+  -- their place is a line's start or the font's length
+  rows-place : (k w : ℕ) (ls : List TextLine) (r : Refusal) → Starting size ls → rowsOn f size k w ls ≡ refused r → r .place ≤ size
+  unfolding rowsOn place-of
+  rows-place zero w ls r s e = clash (cc)
+  rows-place (suc k) w [] r s e = let p = ap place-of e in omega arith
+  rows-place (suc k) w (l ∷ ls) r s e = go (hasWidth (rowOf f (l .text)) w) e (rows-place k w ls r (start-rest size l ls s))
+    where
+      go : (b : Bool) → cond b (rowsOn f size k w ls) (refused (refusal badRow (l .start))) ≡ refused r → (rowsOn f size k w ls ≡ refused r → r .place ≤ size) → r .place ≤ size
+      go true q more = more q
+      go false q more = omega (arith, ap place-of q, start-first size l ls s)
+
+  pub refused-place : (ls : List TextLine) (r : Refusal) → Starting size ls → character f size ls ≡ refused r → r .place ≤ size
+  unfolding character place-of
+  refused-place [] r s e = let p = ap place-of e in omega arith
+  refused-place (l ∷ ls) r s e = go (rowOf f (l .text)) e
+    where
+      go : (x : RowStep) → otherRows f size (l .start) x ls ≡ refused r → r .place ≤ size
+      go (Width w) q = rows-place (f .height - 1) w ls r (start-rest size l ls s) q
+      go BadRow q = omega (arith, ap place-of q, start-first size l ls s)

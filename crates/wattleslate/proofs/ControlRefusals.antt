@@ -9,7 +9,7 @@ use native.Mathlib.Omega.{arith}
 use Rattle.ground.specs.Refusals.{refusal, areaTooSmall, controlFileTooLong}
 use Rattle.ground.specs.declared.refusals.Refusal.{Refusal}
 use Rattle.flc.specs.Control.{Reading, refuses, control}
-use Rattle.flc.proofs.RefusalLaws.{refusalOf, refused-some}
+use Rattle.flc.proofs.RefusalLaws.{refusalOf, control-refusal}
 use Rattle.wattleslate.specs.ControlCall.{hasRoom, controlReading}
 
 module _ (stages firsts lasts news : ℕ) (s : List ℕ) where
@@ -32,7 +32,7 @@ module _ (stages firsts lasts news : ℕ) (s : List ℕ) where
   refused-9 p = (λ e. to room refl e, λ w. small-is (w .1) ∙ ap (λ (j : ℕ). refuses (refusal areaTooSmall j)) (sym (w .0)))
     where
       to : (b : Bool) → room ≡ b → said ≡ refuses (refusal areaTooSmall p) → (p ≡ 0) × (room ≡ false)
-      to true q e = absurd (omega (arith, refused-some s _ (sym (roomy-is q) ∙ e)))
+      to true q e = absurd (omega (arith, control-refusal s _ (sym (roomy-is q) ∙ e) .0))
       to false q e = (ap (λ (x : Reading). refusalOf x .place) (sym e ∙ small-is q), q)
 
   -- any other refusal, exactly where there is room and the file has it

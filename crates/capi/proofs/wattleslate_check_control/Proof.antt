@@ -4,6 +4,7 @@ use mathlib.Core.Path.{sym, ap, _∙_}
 use Rattle.flc.specs.declared.ControlAnswer.{ControlAnswer}
 use Rattle.wattleslate.specs.ControlCall.{controlTells}
 use Rattle.capi.specs.Numbers.{packed, controlNumber}
+use Rattle.capi.proofs.Bounds.{pair-packs, control-packs, control-pairs}
 use borrow.Author.Needs.{needs}
 use Rattle.capi.proofs.wattleslate_check_control.Statement.{statement}
 use Rattle.capi.proofs.wattleslate_check_control.Tie as tie
@@ -27,16 +28,16 @@ enum-known-commands : tie.Need-enum-known-commands
 enum-known-commands c = search needs
 
 paired-requires : tie.Need-paired-requires
-paired-requires c κs = search needs
+paired-requires c κs = control-pairs _ _ _ (sym (c .before .commands .given .1) ∙ c .before .before .before .before .before .before .before .read-lists .ensures .answer)
 
 packed-requires : tie.Need-packed-requires
-packed-requires c κs = search needs
+packed-requires c κs = pair-packs _ _ _ (c .paired .ensures) (control-pairs _ _ _ (sym (c .before .before .commands .given .1) ∙ c .before .before .before .before .before .before .before .before .read-lists .ensures .answer))
 
 enum-known-r : tie.Need-enum-known-r
 enum-known-r c = search needs
 
 packed-requires-2 : tie.Need-packed-requires-2
-packed-requires-2 c κs = search needs
+packed-requires-2 c κs = control-packs _ _ (sym (c .before .r .given .1) ∙ c .before .before .before .before .before .before .before .read-lists .ensures .answer)
 
 returns : tie.Need-returns
 returns c = c .packed .ensures ∙ ap (packed 0) (c .before .paired .ensures) ∙ ap (λ (a : ControlAnswer). controlNumber (controlTells a)) (sym (c .before .before .before .commands .given .1) ∙ c .before .before .before .before .before .before .before .before .before .read-lists .ensures .answer)

@@ -2,7 +2,9 @@
 -- Assumes nothing.
 use mathlib.Core.Path.{sym, ap, _∙_}
 use Rattle.wattleslate.specs.DrawCall.{drawTells}
+use Rattle.drawing.specs.declared.DrawAnswer.the-variants.{Drawn, Refused}
 use Rattle.capi.specs.Numbers.{drawNumber}
+use Rattle.capi.proofs.Bounds.{draw-packs}
 use borrow.Author.Needs.{needs}
 use Rattle.capi.proofs.wattleslate_draw.Statement.{statement}
 use Rattle.capi.proofs.wattleslate_draw.Tie as tie
@@ -14,13 +16,13 @@ enum-known-width : tie.Need-enum-known-width
 enum-known-width c = search needs
 
 packed-requires : tie.Need-packed-requires
-packed-requires c κs = search needs
+packed-requires c κs = draw-packs _ _ _ _ _ (Drawn _) (sym (ap drawTells (c .before .width .given .1)) ∙ c .before .before .before .before .before .before .before .draw .ensures .0)
 
 enum-known-r : tie.Need-enum-known-r
 enum-known-r c = search needs
 
 packed-requires-2 : tie.Need-packed-requires-2
-packed-requires-2 c κs = search needs
+packed-requires-2 c κs = draw-packs _ _ _ _ _ (Refused _) (sym (ap drawTells (c .before .r .given .1)) ∙ c .before .before .before .before .before .before .before .draw .ensures .0)
 
 same-length : tie.Need-same-length
 same-length c = search needs

@@ -1,10 +1,7 @@
 -- `drawing::direction_of` meets its contract.
 -- Assumes nothing.
-use mathlib.Core.Bool.{Bool, cond}
 use mathlib.Core.Path.{sym, ap, _∙_}
 use borrow.Author.Needs.{needs}
-use borrow.Author.Tests.{ne-eqb}
-use Rattle.subchars.specs.declared.Direction.the-variants.{LeftToRight, RightToLeft}
 use Rattle.drawing.specs.Drawing.{directionOf}
 use Rattle.drawing.proofs.direction_of.Statement.{statement}
 use Rattle.drawing.proofs.direction_of.Tie as tie
@@ -15,14 +12,14 @@ enum-told c = search needs
 enum-known-given : tie.Need-enum-known-given
 enum-known-given c = search needs
 
+from-print-requires : tie.Need-from-print-requires
+from-print-requires c κs = search needs
+
 returns : tie.Need-returns
 returns c = search needs
 
 returns-2 : tie.Need-returns-2
-returns-2 c = search needs
-
-returns-3 : tie.Need-returns-3
-returns-3 c = sym (ap directionOf (c .before .before .given .given .1) ∙ ap (λ (b : Bool). cond b RightToLeft LeftToRight) (ne-eqb _ 1 (c .if1 .left)))
+returns-2 c = c .from-print .ensures ∙ sym (ap directionOf (c .before .before .given .given .1))
 
 pub direction-of-spec : {M : Type 1} → statement M
-direction-of-spec = tie.close (tie.spec enum-told enum-known-given returns returns-2 returns-3)
+direction-of-spec = tie.close (tie.spec enum-told enum-known-given from-print-requires returns returns-2)

@@ -1,0 +1,147 @@
+-- Every number, place and value of an answer has room in its 64 bits, so that none of them is lost.
+-- Assumes nothing.
+use mathlib.Core.Path.{_≡_, refl, sym, ap, _∙_, subst}
+use mathlib.Core.Bool.{Bool, true, false, not}
+use mathlib.Core.List.{List}
+use Prim.Native.Nat.{ℕ, _≤_, _*_, _/_, _%_}
+use native.Mathlib.Omega.{arith}
+use lib.Dec.{ltb}
+use lib.ListN.{length}
+use Rattle.ground.specs.Limits.{maxLineWidth}
+use Rattle.ground.specs.Refusals.{badShape, lineTooWide, areaTooSmall}
+use Rattle.ground.specs.declared.refusals.Refusal.{Refusal}
+use Rattle.ground.proofs.Tests.{clash}
+use Rattle.subchars.specs.declared.Mode.{Mode}
+use Rattle.join.specs.Join.{Figure, figure, leftOf, rightOf, overlap, besides}
+use Rattle.join.specs.Shape.{goodShape}
+use Rattle.join.proofs.Demand.{overlap-narrower}
+use Rattle.header.specs.declared.Header.{Header}
+use Rattle.font.specs.Font.{reading}
+use Rattle.font.proofs.ReadingLaws.{font-refusal, font-read}
+use Rattle.reader.specs.declared.FontAnswer.the-variants as font-is
+use Rattle.reader.specs.Reader.{answerOf}
+use Rattle.reader.proofs.ReadLaws.{read-says, unread-refuses}
+use Rattle.flc.specs.declared.ControlAnswer.the-variants as control-is
+use Rattle.flc.specs.Control as flc
+use Rattle.flc.specs.Lists as lists
+use Rattle.flc.proofs.RefusalLaws.{control-refusal}
+use Rattle.flc.proofs.CountLaws.{control-few}
+use Rattle.drawing.specs.declared.DrawAnswer.{DrawAnswer}
+use Rattle.drawing.specs.declared.DrawAnswer.the-variants as draw-is
+use Rattle.wattleslate.specs.declared.JoinAnswer.the-variants as join-is
+use Rattle.wattleslate.specs.DrawCall.{drawTells, drawTold}
+use Rattle.wattleslate.specs.JoinCall.{JoinTold, joinTells, refuseIf, joinTold, toldOf}
+use Rattle.wattleslate.proofs.ToldApart.{draw-apart}
+use Rattle.wattleslate.proofs.DrawRefusals.{DrawsTo, scratch-small, font-refused, control-refused, text-too-long, line-too-wide, output-small, draws, drawAnswer, only-so, always}
+use Rattle.wattleslate.proofs.JoinRefusals.{joined-only, joined-if}
+use Rattle.capi.specs.Numbers.{packed, Packs, paired, Pairs}
+
+-- A caller that takes an answer apart finds what was put in.
+pub unpacks : (number low : ℕ) → Packs number low → (packed number low / 4294967296 ≡ number) × (packed number low % 4294967296 ≡ low)
+unpacks number low p = (omega (arith, p .in-32), omega (arith, p .in-32))
+
+pub unpairs : (high low : ℕ) → Pairs high low → (paired high low / 65536 ≡ high) × (paired high low % 65536 ≡ low)
+unpairs high low p = (omega (arith, p .low-in-16), omega (arith, p .low-in-16))
+
+-- Two values of 16 bits are one of 32.
+pub pair-packs : (high low x : ℕ) → x ≡ paired high low → Pairs high low → Packs 0 x
+pair-packs high low x e p = record { of-table = omega arith; in-32 = omega (arith, e, p .high-in-16, p .low-in-16) }
+
+-- A font's: its Height is at most 32, and it has at most 512 characters.
+module _ (s : List ℕ) where
+  pub font-packs : (r : Refusal) → font-is.Refused r ≡ answerOf (reading s) → Packs (r .number) (r .place)
+  font-packs r e =
+      let n = font-refusal s r (unread-refuses (reading s) r e) in
+      record { of-table = omega (arith, n .1); in-32 = omega (arith, n .3) }
+
+  pub font-pairs : (h : Header) (n : ℕ) → font-is.Read h n ≡ answerOf (reading s) → Pairs (h .height) n
+  font-pairs h n e =
+      let said = read-says (reading s) h n e in
+      let is = font-read s h _ (said .is) in
+      record { high-in-16 = omega (arith, is .high .1); low-in-16 = omega (arith, is .few, said .count) }
+
+-- A control file's: at most 256 commands and 64 stages.
+module _ (s : List ℕ) where
+  pub control-packs : (r : Refusal) → control-is.Refused r ≡ lists.answerOf (flc.control s) → Packs (r .number) (r .place)
+  control-packs r e = go (flc.control s) refl e
+    where
+      go : (x : flc.Reading) → flc.control s ≡ x → control-is.Refused r ≡ lists.answerOf x → Packs (r .number) (r .place)
+      go (flc.reads cs k) p q = clash (cc)
+      go (flc.refuses z) p q =
+          let same : r ≡ z = cc in
+          let n = control-refusal s r (p ∙ ap flc.refuses (sym same)) in
+          record { of-table = omega (arith, n .1); in-32 = omega (arith, n .3) }
+
+  pub control-pairs : (n k : ℕ) → control-is.Read n k ≡ lists.answerOf (flc.control s) → Pairs k n
+  control-pairs n k e = go (flc.control s) refl e
+    where
+      go : (x : flc.Reading) → flc.control s ≡ x → control-is.Read n k ≡ lists.answerOf x → Pairs k n
+      go (flc.reads cs j) p q =
+          let few = control-few s cs j p in
+          let same : n ≡ length cs = cc in
+          let stages : k ≡ j = cc in
+          record { high-in-16 = omega (arith, few .1, stages); low-in-16 = omega (arith, few .0, same) }
+      go (flc.refuses r) p q = clash (cc)
+
+-- A drawing's.
+abbrev DrawnPacks : DrawAnswer → Type 0
+DrawnPacks (draw-is.Drawn w) = Packs 0 w
+DrawnPacks (draw-is.Refused r) = Packs (r .number) (r .place)
+
+module _ (size : ℕ) (s control text : List ℕ) (room : ℕ) where
+  by-reason : (a : DrawAnswer) → DrawsTo size s control text room a → DrawnPacks a
+  by-reason _ (scratch-small u) = record { of-table = omega arith; in-32 = omega arith }
+  by-reason _ (font-refused u r f) = let n = font-refusal s r f in record { of-table = omega (arith, n .1); in-32 = omega (arith, n .3) }
+  by-reason _ (control-refused u h es f r c) = let n = control-refusal control r c in record { of-table = omega (arith, n .1); in-32 = omega (arith, n .3) }
+  by-reason _ (text-too-long u h es f cs k c t) = record { of-table = omega arith; in-32 = omega arith }
+  by-reason _ (line-too-wide u h es f cs k c t w) = record { of-table = omega arith; in-32 = omega arith }
+  by-reason _ (output-small u h es f cs k c t w m) = record { of-table = omega arith; in-32 = omega arith }
+  by-reason _ (draws u h es f cs k c t w m) = record { of-table = omega arith; in-32 = omega (arith, w) }
+
+  pub draw-packs : (a : DrawAnswer) → drawTells a ≡ drawTold size s control text room → DrawnPacks a
+  unfolding drawTold
+  draw-packs a e =
+      let x = always size s control text room in
+      subst DrawnPacks (sym (draw-apart a (drawAnswer size s control text room) e ∙ only-so size s control text room (x .0) (x .1))) (by-reason (x .0) (x .1))
+
+-- A join's: the result is at most 1,000 columns wide, and the overlap is not wider.
+module _ (y : Mode) (h n : ℕ) (line : List ℕ) (m : ℕ) (character : List ℕ) (room : ℕ) where
+  abbrev left : Figure
+  left = leftOf (y .direction) (figure n line) (figure m character)
+
+  abbrev right : Figure
+  right = rightOf (y .direction) (figure n line) (figure m character)
+
+  abbrev width : ℕ
+  width = besides y h left right .width
+
+  abbrev told : JoinTold
+  told = joinTold y h n line m character room
+
+  abbrev of : Bool → Bool → Bool → JoinTold
+  of a b c = refuseIf a badShape (refuseIf b lineTooWide (refuseIf c areaTooSmall (joinTells (join-is.Joined (overlap y h left right) width))))
+
+  low : (told .number ≤ badShape) × (told .place ≡ 0)
+  unfolding joinTold toldOf
+  low = go (not (goodShape y h n (length line) m (length character))) (ltb maxLineWidth width) (ltb room (h * width))
+    where
+      go : (a b c : Bool) → (of a b c .number ≤ badShape) × (of a b c .place ≡ 0)
+      go true b c = (omega arith, refl)
+      go false true c = (omega arith, refl)
+      go false false true = (omega arith, refl)
+      go false false false = (omega arith, refl)
+
+  pub join-packs : (r : Refusal) → joinTells (join-is.Refused r) ≡ told → Packs (r .number) (r .place)
+  join-packs r e =
+      let number : r .number ≡ told .number = ap (λ (t : JoinTold). t .number) e in
+      let place : r .place ≡ told .place = ap (λ (t : JoinTold). t .place) e in
+      record { of-table = omega (arith, number, low .0); in-32 = omega (arith, place, low .1) }
+
+  pub join-pairs : (o w : ℕ) → joinTells (join-is.Joined o w) ≡ told → Pairs o w
+  unfolding besides
+  join-pairs o w e =
+      let j = joined-only y h n line m character room (sym (ap (λ (t : JoinTold). t .refused) e)) in
+      let is = e ∙ joined-if y h n line m character room (j .0) (j .1) (j .2) in
+      let over : o ≡ overlap y h left right = ap (λ (t : JoinTold). t .overlap) is in
+      let wide : w ≡ width = ap (λ (t : JoinTold). t .width) is in
+      record { high-in-16 = omega (arith, over, wide, j .1, overlap-narrower h left right y); low-in-16 = omega (arith, wide, j .1) }
