@@ -3,24 +3,28 @@ mod controlling;
 mod drawn;
 mod joining;
 
-use chars::Entry;
+// The types that the calls take and answer, and the two calls over a lent index.
+pub use chars::Entry;
 pub use drawing::DrawAnswer;
-// Reading a font into a lent index, and look-up in it.
 pub use entries::find_in;
 pub use entries::read_font;
-use flc::ControlAnswer;
+pub use flc::ControlAnswer;
 use flc::mapping;
 use ground::limits;
 use ground::refusals;
-use ground::refusals::Refusal;
+pub use ground::refusals::Refusal;
+pub use header::Given;
+pub use header::Header;
 pub use reader::FontAnswer;
+pub use reader::Use;
 use request::Requested;
 use request::Sought;
-use subchars::Code;
-use subchars::Direction;
-use subchars::Layout;
+pub use subchars::Code;
+pub use subchars::Direction;
+pub use subchars::Layout;
 use subchars::Mode;
-use subchars::SubCharacter;
+pub use subchars::Smushing;
+pub use subchars::SubCharacter;
 ghost use mathlib.Core.Path.{_≡_};
 ghost use lib.ListN.{length};
 ghost use Rattle.ground.specs.Area.{zeros};
