@@ -26,8 +26,8 @@ use Rattle.flc.specs.Control as flc
 use Rattle.flc.specs.Lists as lists
 use Rattle.flc.proofs.RefusalLaws.{control-refusal}
 use Rattle.flc.proofs.CountLaws.{control-few}
-use Rattle.drawing.specs.declared.DrawAnswer.{DrawAnswer}
-use Rattle.drawing.specs.declared.DrawAnswer.the-variants as draw-is
+use Rattle.figure.specs.declared.DrawAnswer.{DrawAnswer}
+use Rattle.figure.specs.declared.DrawAnswer.the-variants as draw-is
 use Rattle.wattleslate.specs.declared.JoinAnswer.the-variants as join-is
 use Rattle.wattleslate.specs.DrawCall.{drawTells, drawTold}
 use Rattle.wattleslate.specs.JoinCall.{JoinTold, joinTells, refuseIf, joinTold, toldOf}

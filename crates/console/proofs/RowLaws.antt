@@ -11,16 +11,15 @@ use lib.IntN.{ℤ}
 use lib.ListN.{length}
 use borrow.Author.Tests.{ltb-false}
 use Rattle.ground.specs.Limits.{maxLineWidth, maxText}
-use Rattle.ground.specs.Refusals.{lineTooWide, areaTooSmall}
+use Rattle.ground.specs.Refusals.{refusal, lineTooWide, areaTooSmall}
 use Rattle.ground.specs.declared.refusals.Refusal.{Refusal}
 use Rattle.join.specs.Join.{Figure}
 use Rattle.figure.specs.Line.{outputOf}
-use Rattle.figure.specs.declared.Output.the-variants as output
 use Rattle.drawing.specs.declared.Files.{Files}
 use Rattle.drawing.specs.declared.Files.the-variants as files
-use Rattle.drawing.specs.declared.DrawAnswer.{DrawAnswer}
-use Rattle.drawing.specs.declared.DrawAnswer.the-variants.{Drawn, Refused}
-use Rattle.drawing.specs.Drawing.{Lined, unlined, linedOf, answering, answerOf, PutOut}
+use Rattle.figure.specs.declared.DrawAnswer.{DrawAnswer}
+use Rattle.figure.specs.declared.DrawAnswer.the-variants.{Drawn, Refused}
+use Rattle.drawing.specs.Drawing.{Lined, unlined, linedOf, answerOf, PutOut}
 use Rattle.drawing.specs.Held.{FilesHeld}
 use Rattle.drawing.proofs.CharacterLaws.{few-rows}
 use Rattle.drawing.proofs.OutputLaws.{text-long, text-lined}
@@ -39,12 +38,12 @@ record Fits (h w room : ℕ) : Type 0 where
   pub narrow : w ≤ maxLineWidth
   pub inside : h * (w + 1) ≤ room
 
-answer-cases : (p q : Bool) (v w : ℕ) → Drawn w ≡ answering (cond p (output.Refused lineTooWide) (cond q (output.Refused areaTooSmall) (output.Drawn v))) → (p ≡ false) × (q ≡ false) × (w ≡ v)
+answer-cases : (p q : Bool) (v w : ℕ) → Drawn w ≡ cond p (Refused (refusal lineTooWide 0)) (cond q (Refused (refusal areaTooSmall 0)) (Drawn v)) → (p ≡ false) × (q ≡ false) × (w ≡ v)
 answer-cases true q v w e = let z : _≡_ {A = ℕ} 0 1 = cc in absurd (omega arith)
 answer-cases false true v w e = let z : _≡_ {A = ℕ} 0 1 = cc in absurd (omega arith)
 answer-cases false false v w e = (refl, refl, cc)
 
-drawn-fits : (h : ℕ) (line : Figure) (room w : ℕ) → Drawn w ≡ answering (outputOf h line room) → Fits h w room
+drawn-fits : (h : ℕ) (line : Figure) (room w : ℕ) → Drawn w ≡ outputOf h line room → Fits h w room
 unfolding outputOf
 drawn-fits h line room w a =
     let x = answer-cases (ltb maxLineWidth (line .width)) (ltb room (h * (line .width + 1))) (line .width) w a in

@@ -15,7 +15,6 @@ use Rattle.ground.specs.Refusals.{refusal, textTooLong, lineTooWide}
 use Rattle.ground.specs.declared.refusals.Refusal.{Refusal}
 use Rattle.subchars.specs.declared.Mode.{Mode}
 use Rattle.join.specs.Join.{Figure}
-use Rattle.figure.specs.declared.Output.{Output}
 use Rattle.figure.specs.Line.{outputOf, outputBytes}
 use Rattle.figure.specs.Scratch.{scratchLine}
 use Rattle.figure.proofs.Showing.{too-wide, no-bytes, output-like, bytes-like}
@@ -24,9 +23,9 @@ use Rattle.chars.specs.declared.Entry.{Entry}
 use Rattle.font.specs.Font as font
 use Rattle.flc.specs.declared.Command.{Command}
 use Rattle.flc.specs.Control as flc
-use Rattle.drawing.specs.declared.DrawAnswer.{DrawAnswer}
-use Rattle.drawing.specs.declared.DrawAnswer.the-variants.{Refused}
-use Rattle.drawing.specs.Drawing.{modeOf, lineOf, lined, unlined, linedBy, linedOf, answering, answerOf, bytesOf, PutOut}
+use Rattle.figure.specs.declared.DrawAnswer.{DrawAnswer}
+use Rattle.figure.specs.declared.DrawAnswer.the-variants.{Refused}
+use Rattle.drawing.specs.Drawing.{modeOf, lineOf, lined, unlined, linedBy, linedOf, answerOf, bytesOf, PutOut}
 use Rattle.drawing.specs.Steps.{Reached}
 
 -- A refusal leaves zeros.
@@ -53,17 +52,17 @@ module _ (h : Header) (w : ℕ) (area : List ℕ) (line : Figure) (reached : Rea
   same-bytes hardblank =
       elim (decLt maxLineWidth w) [
         | yes l ↦
-            sym (no-bytes hardblank (h .height) held room lineTooWide (too-wide 0 (h .height) held room l)) ∙
-            no-bytes hardblank (h .height) line room lineTooWide (too-wide 0 (h .height) line room (reached .beyond l))
+            sym (no-bytes hardblank (h .height) held room (refusal lineTooWide 0) (too-wide 0 (h .height) held room l)) ∙
+            no-bytes hardblank (h .height) line room (refusal lineTooWide 0) (too-wide 0 (h .height) line room (reached .beyond l))
         | no l ↦ ap (λ (b : List ℕ). padded b room) (bytes-like (h .height) held line (reached .within (omega arith)) hardblank room)
       ]
 
-  pub lined-out : (y : Mode) → y ≡ modeOf h → (o : Output) (a : DrawAnswer) (out : List ℕ) → a ≡ answering o → o ≡ outputOf (h .height) (scratchLine (y .direction) w area) room →
+  pub lined-out : (y : Mode) → y ≡ modeOf h → (a : DrawAnswer) (out : List ℕ) → a ≡ outputOf (h .height) (scratchLine (y .direction) w area) room →
       out ≡ padded (outputBytes (y .hardblank .0) (h .height) (scratchLine (y .direction) w area) room) room → PutOut (lined h line) room a out
   unfolding answerOf bytesOf modeOf
-  lined-out y p o a out q e b =
+  lined-out y p a out e b =
       record {
-        answers = q ∙ ap answering (e ∙ ap (λ (z : Mode). outputOf (h .height) (scratchLine (z .direction) w area) room) p ∙ same-output);
+        answers = e ∙ ap (λ (z : Mode). outputOf (h .height) (scratchLine (z .direction) w area) room) p ∙ same-output;
         holds = b ∙ ap (λ (z : Mode). padded (outputBytes (z .hardblank .0) (h .height) (scratchLine (z .direction) w area) room) room) p ∙ same-bytes (h .hardblank .0);
       }
 

@@ -18,8 +18,8 @@ use Rattle.subchars.specs.declared.Direction.the-variants.{LeftToRight}
 use Rattle.subchars.specs.declared.Mode.{Mode}
 use Rattle.subchars.specs.Layouts.{printDirection}
 use Rattle.join.specs.Join.{Figure}
-use Rattle.figure.specs.declared.Output.{Output}
-use Rattle.figure.specs.declared.Output.the-variants as out
+use Rattle.figure.specs.declared.DrawAnswer.{DrawAnswer}
+use Rattle.figure.specs.declared.DrawAnswer.the-variants.{Refused}
 use Rattle.figure.specs.Line.{empty, lineFrom, overlapsFrom, outputOf, outputBytes}
 use Rattle.lines.specs.Lines.{after}
 use Rattle.header.specs.declared.Given.{Given}
@@ -34,8 +34,6 @@ use Rattle.reader.specs.Reader.{used}
 use Rattle.flc.specs.declared.Command.{Command}
 use Rattle.flc.specs.Control as flc
 use Rattle.flc.specs.Mapping.{mapStages}
-use Rattle.drawing.specs.declared.DrawAnswer.{DrawAnswer}
-use Rattle.drawing.specs.declared.DrawAnswer.the-variants.{Drawn, Refused}
 
 -- 1. "Each text byte's code": 0 to 255.
 unfoldable pub codesOf : List ℕ → List Code
@@ -100,13 +98,9 @@ unfoldable pub linedOf : List ℕ → List ℕ → List ℕ → Lined
 linedOf s control text = linedBy s (font.reading s) (flc.control control) text
 
 -- 5. "The output is each row with hardblanks as blanks, then LF; the answer gives the width."
-abbrev pub answering : Output → DrawAnswer
-answering (out.Drawn w) = Drawn w
-answering (out.Refused n) = Refused (refusal n 0)
-
 unfoldable pub answerOf : Lined → ℕ → DrawAnswer
 answerOf (unlined r) room = Refused r
-answerOf (lined h l) room = answering (outputOf (h .height) l room)
+answerOf (lined h l) room = outputOf (h .height) l room
 
 -- The bytes at the start of the output: none after a refusal.
 unfoldable pub bytesOf : Lined → ℕ → List ℕ

@@ -1,6 +1,6 @@
 // Drawing a line of text from a font and a control file that were read once.
 use chars::Entry;
-use figure::Output;
+pub use figure::DrawAnswer;
 use flc::ControlAnswer;
 use flc::mapping;
 use ground::limits;
@@ -44,12 +44,6 @@ pub enum Files {
         count: usize,
         commands: usize,
     },
-    Refused(Refusal),
-}
-
-// What drawing a text answers: the width of the line, or a refusal.
-pub enum DrawAnswer {
-    Drawn(usize),
     Refused(Refusal),
 }
 
@@ -236,10 +230,7 @@ fn put_out(out: &mut [u8], area: &[u8], header: Header, mode: Mode, w: usize) ->
     requires { ⌜ mode ≡ modeOf header ⌝ }
     ensures { λ a. ⌜ ((line : Figure) → Reached header w (now (area .entry)) line → PutOut (Lined.lined header line) (length (now (out .entry))) a (now (out .exit))) ⌝ }
 {
-    match figure::put_out(out, area, mode, w, header.height) {
-        Output::Drawn(width) => DrawAnswer::Drawn(width),
-        Output::Refused(number) => DrawAnswer::Refused(Refusal { number, place: 0 }),
-    }
+    figure::put_out(out, area, mode, w, header.height)
 }
 
 // Draws a text by a font and a control file that were read: 15, 16, then 9 for the output.

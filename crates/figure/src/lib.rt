@@ -1,6 +1,7 @@
 // A line of FIGcharacters drawn in place in a scratch area, and put out.
 use ground::limits;
 use ground::refusals;
+use ground::refusals::Refusal;
 use lanes::View;
 use subchars::Direction;
 use subchars::Mode;
@@ -10,15 +11,16 @@ ghost use mathlib.Core.List.{_++_};
 ghost use Prim.Native.Nat.{ℕ, _+_, _*_, _-_, _<_, _≤_};
 ghost use lib.ListN.{length, take};
 ghost use Rattle.ground.specs.Area.{values, zeros, padded};
+ghost use Rattle.ground.specs.Refusals.{refusal};
 ghost use Rattle.join.specs.Join.{leftOf, rightOf, overlap, rowsOf};
 ghost use Rattle.join.specs.Writing.{fromOn, Stored, RowAfterRow};
 ghost use Rattle.figure.specs.Line.{attached, blanked, ended, outputOf, outputBytes};
 ghost use Rattle.figure.specs.Scratch.{lineStart, scratchLine, rowsAt, RowsIn, met, Laid, LaidRows, Holds};
 
-// What putting a line out comes to: its width, or a refusal's number.
-pub enum Output {
+// What drawing answers: the width of the line, or a refusal.
+pub enum DrawAnswer {
     Drawn(usize),
-    Refused(usize),
+    Refused(Refusal),
 }
 
 // What a sub-character of the line becomes where one of a FIGcharacter lies on it.
@@ -205,15 +207,15 @@ fn line_start(direction: Direction, w: usize) -> usize
 }
 
 // A refusal of the output, with zeros all through it.
-fn refuse(number: usize, out: &mut [u8]) -> Output
-    ensures { λ r. ⌜ (r ≡ Output.Refused number) × (now (out .exit) ≡ zeros (length (now (out .entry)))) ⌝ }
+fn refuse(number: usize, out: &mut [u8]) -> DrawAnswer
+    ensures { λ r. ⌜ (r ≡ DrawAnswer.Refused (refusal number 0)) × (now (out .exit) ≡ zeros (length (now (out .entry)))) ⌝ }
 {
     ground::zero_from(out, 0);
-    Output::Refused(number)
+    DrawAnswer::Refused(Refusal { number, place: 0 })
 }
 
 // Puts out the line w wide that the area holds, or refuses: 16 for a line over 1,000 columns, then 9 for too little room.
-pub fn put_out(out: &mut [u8], area: &[u8], mode: Mode, w: usize, h: usize) -> Output
+pub fn put_out(out: &mut [u8], area: &[u8], mode: Mode, w: usize, h: usize) -> DrawAnswer
     requires { ⌜ (h ≤ 32) × (32000 ≤ length (now area)) ⌝ }
     ensures { λ r. ⌜ r ≡ outputOf h (scratchLine (mode .direction) w (now (area .entry))) (length (now (out .entry))) ⌝ }
     ensures { λ r. ⌜ now (out .exit) ≡ padded (outputBytes (mode .hardblank .0) h (scratchLine (mode .direction) w (now (area .entry))) (length (now (out .entry)))) (length (now (out .entry))) ⌝ }
@@ -229,5 +231,5 @@ pub fn put_out(out: &mut [u8], area: &[u8], mode: Mode, w: usize, h: usize) -> O
     let hardblank = mode.hardblank;
     show_rows(out, area, line_start(direction, w), w, hardblank, h);
     ground::zero_from(out, need);
-    Output::Drawn(w)
+    DrawAnswer::Drawn(w)
 }

@@ -9,7 +9,7 @@ use borrow.Author.Tests.{lt-ltb, le-ltb}
 use Rattle.ground.specs.Area.{zeros}
 use Rattle.ground.specs.Refusals.{refusal, areaTooSmall}
 use Rattle.ground.specs.Limits.{minScratch}
-use Rattle.drawing.specs.declared.DrawAnswer.{DrawAnswer}
+use Rattle.figure.specs.declared.DrawAnswer.{DrawAnswer}
 use Rattle.drawing.specs.Drawing.{Lined, unlined, linedOf, PutOut}
 use Rattle.wattleslate.specs.DrawCall.{drawTells, drawLined, drawTold, drawOutput}
 

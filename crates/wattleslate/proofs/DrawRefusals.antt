@@ -17,9 +17,9 @@ use Rattle.chars.specs.declared.Entry.{Entry}
 use Rattle.font.specs.Font as font
 use Rattle.flc.specs.declared.Command.{Command}
 use Rattle.flc.specs.Control as flc
-use Rattle.drawing.specs.declared.DrawAnswer.{DrawAnswer}
-use Rattle.drawing.specs.declared.DrawAnswer.the-variants.{Drawn, Refused}
-use Rattle.drawing.specs.Drawing.{lineOf, Lined, unlined, linedBy, linedOf, answering, answerOf}
+use Rattle.figure.specs.declared.DrawAnswer.{DrawAnswer}
+use Rattle.figure.specs.declared.DrawAnswer.the-variants.{Drawn, Refused}
+use Rattle.drawing.specs.Drawing.{lineOf, Lined, unlined, linedBy, linedOf, answerOf}
 use Rattle.drawing.proofs.OutputLaws.{text-long, text-lined}
 use Rattle.wattleslate.specs.DrawCall.{drawLined}
 use Rattle.wattleslate.proofs.DrawCases.{lined-small, lined-enough}
@@ -47,7 +47,7 @@ module _ (size : ℕ) (s control text : List ℕ) (room : ℕ) where
   refused-by r l e p = ap (λ (x : Lined). answerOf x room) (e ∙ p)
 
   put-by : (h : Header) (es : List Entry) (cs : List Command) (k : ℕ) → minScratch ≤ size → font.reading s ≡ font.says h es → flc.control control ≡ flc.reads cs k → length text ≤ maxText →
-      drawAnswer ≡ answering (outputOf (h .height) (lineOf s h es cs k text) room)
+      drawAnswer ≡ outputOf (h .height) (lineOf s h es cs k text) room
   unfolding answerOf
   put-by h es cs k u f c t = ap (λ (x : Lined). answerOf x room) (lined-enough size s control text u ∙ text-lined s control text h es cs k f c t)
 
@@ -59,9 +59,9 @@ module _ (size : ℕ) (s control text : List ℕ) (room : ℕ) where
   only-so _ (control-refused u h es f r c) =
       refused-by r _ (lined-enough size s control text u) (ap (λ (x : font.Reading). linedBy s x (flc.control control) text) f ∙ ap (λ (x : flc.Reading). linedBy s (font.says h es) x text) c)
   only-so _ (text-too-long u h es f cs k c t) = refused-by (refusal textTooLong 0) _ (lined-enough size s control text u) (text-long s control text h es cs k f c t)
-  only-so _ (line-too-wide u h es f cs k c t w) = put-by h es cs k u f c t ∙ ap answering (sym (too-wide 0 (h .height) (lineOf s h es cs k text) room w))
-  only-so _ (output-small u h es f cs k c t w m) = put-by h es cs k u f c t ∙ ap answering (sym (no-room 0 (h .height) (lineOf s h es cs k text) room w m))
-  only-so _ (draws u h es f cs k c t w m) = put-by h es cs k u f c t ∙ ap answering (sym (drawn 0 (h .height) (lineOf s h es cs k text) room w m))
+  only-so _ (line-too-wide u h es f cs k c t w) = put-by h es cs k u f c t ∙ sym (too-wide 0 (h .height) (lineOf s h es cs k text) room w)
+  only-so _ (output-small u h es f cs k c t w m) = put-by h es cs k u f c t ∙ sym (no-room 0 (h .height) (lineOf s h es cs k text) room w m)
+  only-so _ (draws u h es f cs k c t w m) = put-by h es cs k u f c t ∙ sym (drawn 0 (h .height) (lineOf s h es cs k text) room w m)
 
   -- and there is always one of them.
   pub always : (a : DrawAnswer) × DrawsTo a

@@ -2,8 +2,8 @@
 -- Assumes nothing.
 use mathlib.Core.Path.{_≡_, refl, ap, ap₂}
 use mathlib.Core.Bool.{true≢false, false≢true}
-use Rattle.drawing.specs.declared.DrawAnswer.{DrawAnswer}
-use Rattle.drawing.specs.declared.DrawAnswer.the-variants as draw-is
+use Rattle.figure.specs.declared.DrawAnswer.{DrawAnswer}
+use Rattle.figure.specs.declared.DrawAnswer.the-variants as draw-is
 use Rattle.flc.specs.declared.ControlAnswer.{ControlAnswer}
 use Rattle.flc.specs.declared.ControlAnswer.the-variants as control-is
 use Rattle.wattleslate.specs.declared.JoinAnswer.{JoinAnswer}

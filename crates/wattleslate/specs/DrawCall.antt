@@ -7,8 +7,8 @@ use lib.Dec.{ltb}
 use Rattle.ground.specs.Area.{padded}
 use Rattle.ground.specs.Refusals.{refusal, areaTooSmall}
 use Rattle.ground.specs.Limits.{minScratch}
-use Rattle.drawing.specs.declared.DrawAnswer.{DrawAnswer}
-use Rattle.drawing.specs.declared.DrawAnswer.the-variants.{Drawn, Refused}
+use Rattle.figure.specs.declared.DrawAnswer.{DrawAnswer}
+use Rattle.figure.specs.declared.DrawAnswer.the-variants.{Drawn, Refused}
 use Rattle.drawing.specs.Drawing.{Lined, unlined, linedOf, answerOf, bytesOf}
 
 -- What an answer tells. "A refusal answers its number and place (0 where none is named); other numbers are 0."

@@ -2,7 +2,7 @@
 -- Assumes nothing.
 use mathlib.Core.Path.{sym, ap, _∙_}
 use Rattle.wattleslate.specs.DrawCall.{drawTells}
-use Rattle.drawing.specs.declared.DrawAnswer.the-variants.{Drawn, Refused}
+use Rattle.figure.specs.declared.DrawAnswer.the-variants.{Drawn, Refused}
 use Rattle.capi.specs.Numbers.{drawNumber}
 use Rattle.capi.proofs.Bounds.{draw-packs}
 use borrow.Author.Needs.{needs}
