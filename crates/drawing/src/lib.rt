@@ -19,11 +19,11 @@ use subchars::Mode;
 ghost use mathlib.Core.Path.{_≡_};
 ghost use mathlib.Core.Bool.{true};
 ghost use mathlib.Core.List.{List};
-ghost use Prim.Native.Nat.{ℕ, _+_, _≤_};
+ghost use Prim.Native.Nat.{ℕ, _+_, _<_, _≤_};
 ghost use lib.IntN.{pos};
 ghost use lib.ListN.{length};
 ghost use Rattle.ground.specs.Limits.{maxCommands};
-ghost use Rattle.lines.specs.Lines.{nextStart};
+ghost use Rattle.lines.specs.Lines.{lineEnd, nextStart, after};
 ghost use Rattle.chars.specs.Codes.{code};
 ghost use Rattle.font.specs.Font.{reading};
 ghost use Rattle.index.specs.Index.{Room};
@@ -89,26 +89,20 @@ fn mode_of(header: Header) -> Mode
     }
 }
 
-// Whether one byte of a line and an LF stand at a place: what is behind most rows of a font.
+// Whether an LF stands directly behind a byte of a line: so most rows of a font end, by one endmark.
 fn one_mark(font: &[u8], at: usize) -> bool
-    requires { ⌜ at ≤ length (now font) ⌝ }
+    requires { ⌜ at < lineEnd (now font) at ⌝ }
     ensures { λ b. ⌜ (b ≡ true → nextStart (now (font .entry)) at ≡ at + 2) ⌝ }
 {
     if font.len() <= at + 1 {
         return false;
     }
-    if font[at + 1] != b'\n' {
-        return false;
-    }
-    if font[at] == b'\n' {
-        return false;
-    }
-    font[at] != b'\r'
+    font[at + 1] == b'\n'
 }
 
-// Where the line behind a place starts.
+// Where the line behind a byte of a line starts.
 fn next_place(font: &[u8], at: usize) -> usize
-    requires { ⌜ at ≤ length (now font) ⌝ }
+    requires { ⌜ at < lineEnd (now font) at ⌝ }
     ensures { λ r. ⌜ r ≡ nextStart (now (font .entry)) at ⌝ }
 {
     if one_mark(font, at) {
@@ -127,16 +121,18 @@ fn next_place(font: &[u8], at: usize) -> usize
 
 // Where the rows of a FIGcharacter start. A row's own bytes are passed over: only the endmarks behind them are looked at.
 fn find_rows(font: &[u8], start: usize, width: usize, h: usize, rows: &mut [usize])
-    requires { ⌜ h ≤ length (now rows) ⌝ }
+    requires { ⌜ (0 < h) × (h ≤ length (now rows)) ⌝ }
     requires { ⌜ Standing (now font) start width h ⌝ }
+    requires { ⌜ ((r : ℕ) → r < h → after r (now font) start + width < lineEnd (now font) (after r (now font) start)) ⌝ }
     ensures { λ _. ⌜ RowPlaces (now (font .entry)) start h (now (rows .exit)) ⌝ }
 {
-    let mut r: usize = 0;
+    rows[0] = start;
+    let mut last: usize = 0;
     let mut at = start;
-    while r < h {
-        rows[r] = at;
+    while last + 1 < h {
         at = next_place(font, at + width);
-        r += 1;
+        last += 1;
+        rows[last] = at;
     }
 }
 

@@ -1,7 +1,7 @@
 -- `drawing::draw_code` meets its contract.
 -- Assumes nothing.
 use mathlib.Core.Path.{sym, _∙_}
-use Rattle.drawing.proofs.CharacterLaws.{few-rows, standing, narrow, rows-in, unmoved, reached}
+use Rattle.drawing.proofs.CharacterLaws.{few-rows, some-rows, standing, marked, narrow, rows-in, unmoved, reached}
 use borrow.Author.Needs.{needs}
 use Rattle.drawing.proofs.draw_code.Statement.{statement}
 use Rattle.drawing.proofs.draw_code.Tie as tie
@@ -18,7 +18,9 @@ slice-aggregate-find-rows c = search needs
 find-rows-requires : tie.Need-find-rows-requires
 find-rows-requires c κs =
     let f = c .before .before .before .before .before .before .before .before .before .before .before .pre .0 in
-    (few-rows _ _ _ _ _ _ _ f, standing _ _ _ _ _ _ _ f (c .before .before .before .before .before .before .before .before .before .before .before .args .code) _ (sym (c .before .before .entry .given .1) ∙ c .before .before .before .before .find-known .ensures (f .characters) (f .count) (f .lists)))
+    let x = c .before .before .before .before .before .before .before .before .before .before .before .args .code in
+    let u = sym (c .before .before .entry .given .1) ∙ c .before .before .before .before .find-known .ensures (f .characters) (f .count) (f .lists) in
+    ((some-rows _ _ _ _ _ _ _ f, few-rows _ _ _ _ _ _ _ f), (standing _ _ _ _ _ _ _ f x _ u, marked _ _ _ _ _ _ _ f x _ u))
 
 slice-aggregate-attach : tie.Need-slice-aggregate-attach
 slice-aggregate-attach c = search needs
