@@ -136,9 +136,10 @@ fn find_rows(font: &[u8], start: usize, width: usize, h: usize, rows: &mut [usiz
     }
 }
 
-// Joins the FIGcharacter that is used for a code to the line, n wide, in the area; answers the new width.
+// Joins the FIGcharacter that is used for a code to the line, n wide, in the area; answers the new width. Its rows are found in a lent list.
 fn draw_code(
     area: &mut [u8],
+    found: &mut [usize],
     rows: &[usize],
     n: usize,
     code: Code,
@@ -153,7 +154,7 @@ fn draw_code(
 ) -> usize
     requires { ⌜ FontHeld (now font) header count (now codes) (now starts) (now widths) (now places) ⌝ }
     requires { ⌜ mode ≡ modeOf header ⌝ }
-    requires { ⌜ (n ≤ 1000) × (32000 ≤ length (now area)) ⌝ }
+    requires { ⌜ (n ≤ 1000) × (32000 ≤ length (now area)) × (32 ≤ length (now found)) ⌝ }
     requires { ⌜ RowAfterRow 1000 (header .height) (now rows) ⌝ }
     ensures { λ w. ⌜ Reached header w (now (area .exit)) (withCharacter header (now (font .entry)) (used code (entriesOf (reading (now (font .entry))))) (scratchLine (modeOf header .direction) n (now (area .entry)))) ⌝ }
 {
@@ -162,9 +163,8 @@ fn draw_code(
             let start = entry.start;
             let width = entry.width;
             let height = header.height;
-            let mut at = [0usize; limits::MAX_HEIGHT];
-            find_rows(font, start, width, height, &mut at);
-            figure::attach(area, rows, n, mode, font, &at, width, height)
+            find_rows(font, start, width, height, found);
+            figure::attach(area, rows, n, mode, font, found, width, height)
         }
         Use::Nothing => n,
     }
@@ -202,6 +202,7 @@ fn join_text(
     ensures { λ w. ⌜ ((control : List ℕ) (held : ControlHeld control commands (now (stages .entry)) (now (firsts .entry)) (now (lasts .entry)) (now (news .entry))) → Reached header w (now (area .exit)) (lineOf (now (font .entry)) header (entriesOf (reading (now (font .entry)))) (held .commands) (held .count) (now (text .entry)))) ⌝ }
 {
     let rows = join::row_starts(limits::MAX_LINE_WIDTH, header.height);
+    let mut found = [0usize; limits::MAX_HEIGHT];
     let mut n: usize = 0;
     let mut i: usize = 0;
     while i < text.len() {
@@ -209,6 +210,7 @@ fn join_text(
         let code = mapping::map_by(stages, firsts, lasts, news, commands, byte);
         n = draw_code(
             area,
+            &mut found,
             &rows,
             n,
             code,
