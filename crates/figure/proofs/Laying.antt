@@ -1,6 +1,7 @@
 -- A FIGcharacter's rows laid on the line's: the parts of a row, and one row more.
 -- Assumes nothing.
 use mathlib.Core.Path.{_≡_, sym, _∙_, ap, ap₂}
+use mathlib.Core.Logic.{_⊎_, inl, inr}
 use mathlib.Core.List.{List}
 use Prim.Native.Nat.{ℕ, suc, _+_, _-_, _*_, _≤_, _<_}
 use native.Mathlib.Omega.{arith}
@@ -13,29 +14,41 @@ use Rattle.figure.specs.Scratch.{met, Laid, LaidRows}
 pub same-at : (l : List ℕ) {i j : ℕ} → i ≡ j → getD l i 0 ≡ getD l j 0
 same-at l e = ap (λ (k : ℕ). getD l k 0) e
 
--- a row in its three parts
-module _ (y : Mode) (p o m at from : ℕ) (s d a b e : List ℕ) (fits : p + o ≤ m) (x : Stored (fromOn s from) at p d a) (t : Stored (λ (j : ℕ). met y (fromOn a (at + p) j) (fromOn s (from + p) j)) (at + p) o a b) (u : Stored (fromOn s (from + (p + o))) (at + (p + o)) (m - (p + o)) b e) where
-  laid-pair : (j : ℕ) → p ≤ j → j < p + o → getD e (at + j) 0 ≡ met y (getD d (at + j) 0) (getD s (from + j) 0)
+-- where the others end
+pub others-fit : (p q o m : ℕ) → p + o ≤ m → ((p ≡ 0) × (q ≡ o)) ⊎ ((p + o ≡ m) × (q ≡ 0)) → q + (m - o) ≤ m
+others-fit p q o m h (inl v) = omega (arith, v .1)
+others-fit p q o m h (inr v) = omega (arith, v .1)
+
+-- a row in its two parts: what lies on the line, at the row's start or at its end, and the others
+module _ (y : Mode) (p q o m at from : ℕ) (s d b e : List ℕ) (fits : p + o ≤ m) (t : Stored (λ (j : ℕ). met y (fromOn d (at + p) j) (fromOn s (from + p) j)) (at + p) o d b) (u : Stored (fromOn s (from + q)) (at + q) (m - o) b e) where
+  laid-pair : (j : ℕ) → p ≤ j → j < p + o → getD b (at + j) 0 ≡ met y (getD d (at + j) 0) (getD s (from + j) 0)
   laid-pair j g h =
-      let q : at + j ≡ at + p + (j - p) = omega arith in
+      let k : at + j ≡ at + p + (j - p) = omega arith in
       let f : from + p + (j - p) ≡ from + j = omega arith in
-      u .below (at + j) (omega arith)
-      ∙ (same-at b q ∙ (t .inside (j - p) (omega arith) ∙ ap₂ (met y) (same-at a (sym q) ∙ x .above (at + j) (omega arith)) (same-at s f)))
+      same-at b k ∙ (t .inside (j - p) (omega arith) ∙ ap₂ (met y) (same-at d (sym k)) (same-at s f))
 
-  laid-behind : (j : ℕ) → p + o ≤ j → j < m → getD e (at + j) 0 ≡ getD s (from + j) 0
-  laid-behind j g h =
-      let q : at + j ≡ at + (p + o) + (j - (p + o)) = omega arith in
-      let f : from + (p + o) + (j - (p + o)) ≡ from + j = omega arith in
-      same-at e q ∙ (u .inside (j - (p + o)) (omega arith) ∙ same-at s f)
+  laid-other : (j : ℕ) → q ≤ j → j < q + (m - o) → getD e (at + j) 0 ≡ getD s (from + j) 0
+  laid-other j g h =
+      let k : at + j ≡ at + q + (j - q) = omega arith in
+      let f : from + q + (j - q) ≡ from + j = omega arith in
+      same-at e k ∙ (u .inside (j - q) (omega arith) ∙ same-at s f)
 
-  pub laid-row : (hi : ℕ) → Laid y p o m (fromOn s from) at 0 hi d e
-  laid-row hi =
+  pub laid-row : ((p ≡ 0) × (q ≡ o)) ⊎ ((p + o ≡ m) × (q ≡ 0)) → (hi : ℕ) → Laid y p o m (fromOn s from) at 0 hi d e
+  laid-row (inl v) hi =
       record {
-        before = λ j h. u .below (at + j) (omega arith) ∙ (t .below (at + j) (omega arith) ∙ x .inside j h);
-        paired = laid-pair;
-        behind = laid-behind;
-        below = λ i g h. u .below i (omega arith) ∙ (t .below i (omega arith) ∙ x .below i h);
-        above = λ i g h. u .above i (omega arith) ∙ (t .above i (omega arith) ∙ x .above i (omega arith));
+        before = λ j h. absurd (omega (arith, v .0));
+        paired = λ j g h. u .below (at + j) (omega (arith, v .0, v .1)) ∙ laid-pair j g h;
+        behind = λ j g h. laid-other j (omega (arith, v .0, v .1)) (omega (arith, v .1));
+        below = λ i g h. u .below i (omega arith) ∙ t .below i (omega arith);
+        above = λ i g h. u .above i (omega (arith, v .1)) ∙ t .above i (omega arith);
+      }
+  laid-row (inr v) hi =
+      record {
+        before = λ j h. laid-other j (omega (arith, v .1)) (omega (arith, v .0, v .1));
+        paired = λ j g h. u .above (at + j) (omega (arith, v .0, v .1)) ∙ laid-pair j g h;
+        behind = λ j g h. absurd (omega (arith, v .0));
+        below = λ i g h. u .below i (omega arith) ∙ t .below i (omega arith);
+        above = λ i g h. u .above i (omega (arith, v .1)) ∙ t .above i (omega arith);
       }
 
 -- one row more

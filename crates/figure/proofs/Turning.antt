@@ -1,6 +1,7 @@
 -- What the area holds after a FIGcharacter was laid is the join of the definition, in either direction.
 -- Assumes nothing.
 use mathlib.Core.Path.{_≡_, refl, sym, _∙_, ap, subst}
+use mathlib.Core.Logic.{_⊎_, inl, inr}
 use mathlib.Core.List.{List}
 use Prim.Native.Nat.{ℕ, _+_, _-_, _*_, _≤_, min}
 use native.Mathlib.Omega.{arith}
@@ -79,13 +80,37 @@ unfolding attached besides
 attached-wide y h l c = ap (λ (v : ℕ). v - overlap y h (leftOf (y .direction) l c) (rightOf (y .direction) l c)) (both-wide (y .direction) l c)
 
 -- where a FIGcharacter is laid, and which of its places lie on the line's
-abbrev pub layAt : Direction → ℕ → ℕ → ℕ
+abbrev layAt : Direction → ℕ → ℕ → ℕ
 layAt LeftToRight cut w = cut
 layAt RightToLeft cut w = 1000 - w
 
-abbrev pub faceAt : Direction → ℕ → ℕ
+abbrev faceAt : Direction → ℕ → ℕ
 faceAt LeftToRight cut = 0
 faceAt RightToLeft cut = cut
+
+-- the same as the code finds it: one of two numbers, by the direction
+abbrev pub Picked : Direction → ℕ → ℕ → ℕ → Type 0
+Picked d x z r = (d ≡ LeftToRight → r ≡ x) × (d ≡ RightToLeft → r ≡ z)
+
+picked-at : (d : Direction) (cut w r : ℕ) → Picked d cut (1000 - w) r → r ≡ layAt d cut w
+picked-at LeftToRight cut w r p = p .0 refl
+picked-at RightToLeft cut w r p = p .1 refl
+
+picked-face : (d : Direction) (cut r : ℕ) → Picked d 0 cut r → r ≡ faceAt d cut
+picked-face LeftToRight cut r p = p .0 refl
+picked-face RightToLeft cut r p = p .1 refl
+
+pub lay-fits : (d : Direction) (n m o at : ℕ) → o ≤ n → o ≤ m → n + m - o ≤ 1000 → Picked d (n - o) (1000 - (n + m - o)) at → at + m ≤ 1000
+lay-fits LeftToRight n m o at u v w p = omega (arith, p .0 refl)
+lay-fits RightToLeft n m o at u v w p = omega (arith, p .1 refl)
+
+pub face-fits : (d : Direction) (m o p : ℕ) → o ≤ m → Picked d 0 (m - o) p → p + o ≤ m
+face-fits LeftToRight m o p u f = omega (arith, f .0 refl)
+face-fits RightToLeft m o p u f = omega (arith, f .1 refl)
+
+pub sides : (d : Direction) (m o p q : ℕ) → o ≤ m → Picked d 0 (m - o) p → Picked d o 0 q → ((p ≡ 0) × (q ≡ o)) ⊎ ((p + o ≡ m) × (q ≡ 0))
+sides LeftToRight m o p q u f g = inl (f .0 refl, g .0 refl)
+sides RightToLeft m o p q u f g = inr (omega (arith, f .1 refl), g .1 refl)
 
 module _ (y : Mode) (h n m o : ℕ) (s starts old new : List ℕ) (on : o ≤ n) (om : o ≤ m) (fits : n + m - o ≤ 1000) where
   abbrev chr : Figure
@@ -101,13 +126,18 @@ module _ (y : Mode) (h n m o : ℕ) (s starts old new : List ℕ) (on : o ≤ n)
       subst (λ (v : ℕ). Agree h (n + m - o) (scratchLine RightToLeft (n + m - o) new .cells) (joinedAt y v chr (scratchLine RightToLeft n old))) q
       (to-left y h n m o s starts old new on om fits e w)
 
-  pub holds : o ≡ overlap y h (leftOf (y .direction) (scratchLine (y .direction) n old) chr) (rightOf (y .direction) (scratchLine (y .direction) n old) chr) → (d : Direction) → y .direction ≡ d → LaidRows y h (layAt d (n - o) (n + m - o)) (faceAt d (m - o)) o m s starts old new →
+  pub holds : o ≡ overlap y h (leftOf (y .direction) (scratchLine (y .direction) n old) chr) (rightOf (y .direction) (scratchLine (y .direction) n old) chr) →
+      (at p : ℕ) → Picked (y .direction) (n - o) (1000 - (n + m - o)) at → Picked (y .direction) 0 (m - o) p → LaidRows y h at p o m s starts old new →
       Holds (y .direction) h (n + m - o) new (attached y h (scratchLine (y .direction) n old) chr)
   unfolding attached
-  holds q d e w =
+  holds q at p a f w =
+      let d = y .direction in
       record {
-        width = ap (λ (v : ℕ). n + m - v) q ∙ sym (attached-wide y h (scratchLine (y .direction) n old) chr);
-        cells = λ u. in-either (y .direction) refl q (subst (λ (b : Direction). LaidRows y h (layAt b (n - o) (n + m - o)) (faceAt b (m - o)) o m s starts old new) (sym e) w);
+        width = ap (λ (v : ℕ). n + m - v) q ∙ sym (attached-wide y h (scratchLine d n old) chr);
+        cells = λ u.
+            in-either d refl q
+            (subst (λ (v : ℕ). LaidRows y h v (faceAt d (m - o)) o m s starts old new) (picked-at d (n - o) (n + m - o) at a)
+            (subst (λ (v : ℕ). LaidRows y h at v o m s starts old new) (picked-face d (m - o) p f) w));
       }
 
 -- ------------------------------------------------------------------ the code's views of both

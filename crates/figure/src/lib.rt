@@ -6,6 +6,7 @@ use subchars::Direction;
 use subchars::Mode;
 use subchars::SubCharacter;
 ghost use mathlib.Core.Path.{_≡_};
+ghost use mathlib.Core.Logic.{_⊎_};
 ghost use mathlib.Core.List.{_++_};
 ghost use Prim.Native.Nat.{ℕ, _+_, _*_, _-_, _<_, _≤_};
 ghost use lib.ListN.{length, take};
@@ -45,7 +46,7 @@ fn meet_row(area: &mut [u8], at: usize, mode: Mode, s: &[u8], from: usize, m: us
     }
 }
 
-// Lays one row of a FIGcharacter, m wide: its places p to p + o lie on the line's.
+// Lays one row of a FIGcharacter, m wide: its places p to p + o lie on the line's, at its start or at its end; those from q on are the others.
 fn lay_row(
     area: &mut [u8],
     at: usize,
@@ -53,16 +54,16 @@ fn lay_row(
     s: &[u8],
     from: usize,
     p: usize,
+    q: usize,
     o: usize,
     m: usize,
 )
     requires { ⌜ (p + o ≤ m) × (at + m ≤ length (now area)) × (from + m ≤ length (now s)) ⌝ }
+    requires { ⌜ ((p ≡ 0) × (q ≡ o)) ⊎ ((p + o ≡ m) × (q ≡ 0)) ⌝ }
     ensures { λ _. ⌜ ((hi : ℕ) → Laid mode p o m (fromOn (now (s .entry)) from) at 0 hi (now (area .entry)) (now (area .exit))) ⌝ }
 {
-    let q = p + o;
-    join::copy_part(area, at, s, from, p);
     meet_row(area, at + p, mode, s, from + p, o);
-    join::copy_part(area, at + q, s, from + q, m - q);
+    join::copy_part(area, at + q, s, from + q, m - o);
 }
 
 // The same for each of h rows.
@@ -73,17 +74,19 @@ fn lay(
     s: &[u8],
     starts: &[usize],
     p: usize,
+    q: usize,
     o: usize,
     m: usize,
     h: usize,
 )
     requires { ⌜ (h ≤ 32) × (p + o ≤ m) × (at + m ≤ 1000) × (32000 ≤ length (now area)) ⌝ }
     requires { ⌜ RowsIn (now s) (now starts) m h ⌝ }
+    requires { ⌜ ((p ≡ 0) × (q ≡ o)) ⊎ ((p + o ≡ m) × (q ≡ 0)) ⌝ }
     ensures { λ _. ⌜ LaidRows mode h at p o m (now (s .entry)) (now (starts .entry)) (now (area .entry)) (now (area .exit)) ⌝ }
 {
     let mut r: usize = 0;
     while r < h {
-        lay_row(area, r * 1000 + at, mode, s, starts[r], p, o, m);
+        lay_row(area, r * 1000 + at, mode, s, starts[r], p, q, o, m);
         r += 1;
     }
 }
@@ -130,6 +133,16 @@ fn over(
     }
 }
 
+fn by_direction(direction: Direction, rightward: usize, leftward: usize) -> usize
+    ensures { λ r. ⌜ (direction ≡ Direction.LeftToRight → r ≡ rightward) ⌝ }
+    ensures { λ r. ⌜ (direction ≡ Direction.RightToLeft → r ≡ leftward) ⌝ }
+{
+    match direction {
+        Direction::LeftToRight => rightward,
+        Direction::RightToLeft => leftward,
+    }
+}
+
 // Joins a FIGcharacter to the line, n wide, in place; answers the new width. A width over 1,000 leaves the area as it was.
 pub fn attach(
     area: &mut [u8],
@@ -152,10 +165,10 @@ pub fn attach(
         return w;
     }
     let direction = mode.direction;
-    match direction {
-        Direction::LeftToRight => lay(area, n - o, mode, s, starts, 0, o, m, h),
-        Direction::RightToLeft => lay(area, 1000 - w, mode, s, starts, m - o, o, m, h),
-    }
+    let at = by_direction(direction, n - o, 1000 - w);
+    let p = by_direction(direction, 0, m - o);
+    let q = by_direction(direction, o, 0);
+    lay(area, at, mode, s, starts, p, q, o, m, h);
     w
 }
 

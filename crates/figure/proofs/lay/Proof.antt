@@ -11,10 +11,10 @@ use Rattle.figure.proofs.lay.Statement.{statement}
 use Rattle.figure.proofs.lay.Tie as tie
 
 abbrev Inv-loop : tie.InvT-loop
-Inv-loop area₀ at mode s starts p o m h r₀ area r = (r ≤ h) × LaidRows mode r at p o m s starts area₀ area × ((i : ℕ) → r * 1000 ≤ i → getD area i 0 ≡ getD area₀ i 0)
+Inv-loop area₀ at mode s starts p q o m h r₀ area r = (r ≤ h) × LaidRows mode r at p o m s starts area₀ area × ((i : ℕ) → r * 1000 ≤ i → getD area i 0 ≡ getD area₀ i 0)
 
 abbrev μ-loop : tie.MeasureT-loop
-μ-loop area₀ at mode s starts p o m h r₀ area r = h - r
+μ-loop area₀ at mode s starts p q o m h r₀ area r = h - r
 
 loop-holds : tie.Need-loop-holds Inv-loop μ-loop
 loop-holds c = (search needs, record { size = refl; rows = λ r u. absurd (omega arith) }, λ i u. refl)
@@ -29,14 +29,14 @@ mul-lay-row-2 : tie.Need-mul-lay-row-2 Inv-loop μ-loop
 mul-lay-row-2 c = omega arith
 
 shared-slice-read-lay-row : tie.Need-shared-slice-read-lay-row Inv-loop μ-loop
-shared-slice-read-lay-row c = omega (arith, c .before .before .before .before .before .before .before .pre .1 .many)
+shared-slice-read-lay-row c = omega (arith, c .before .before .before .before .before .before .before .pre .1 .0 .many)
 
 lay-row-requires : tie.Need-lay-row-requires Inv-loop μ-loop
 lay-row-requires c κs =
     let s = c .before .before .before .before .before .before .before in
     let l = c .before .before .before .loop in
     let p = s .pre .0 in
-    (p .1, omega (arith, p .0, p .2, p .3, l .inv .1 .size), s .pre .1 .within (l .r) (omega arith))
+    ((p .1, omega (arith, p .0, p .2, p .3, l .inv .1 .size), s .pre .1 .0 .within (l .r) (omega arith)), s .pre .1 .1)
 
 add-r : tie.Need-add-r Inv-loop μ-loop
 add-r c = omega arith
