@@ -8,6 +8,7 @@ use native.Mathlib.Omega.{arith}
 use lib.Dec.{eqb}
 use lib.ListN.{getD}
 use borrow.Author.Tests.{eq-eqb, ne-eqb, eqb-true, eqb-false, not-true}
+use Rattle.ground.specs.Text.{bytes}
 use Rattle.ground.specs.Count.{every}
 use Rattle.ground.proofs.Tests.{and-left, and-right, not-true-false, never-both, or-elim}
 use Rattle.ground.proofs.Counting.{every-at}
@@ -107,13 +108,24 @@ module _ (i : ℕ) (within : i < 11) where
           (λ o. sym (rw q at o))
       go false e = sym (not-true-false (opposite (x i) y) λ o. eqb-false (p i) y e (other (x i) y o refl))
 
--- an entry of the table is right of its sub-character
-pub marked : (i z : ℕ) → i < 11 → x i ≡ z → Marked z (entry i)
-marked i z h e = subst (λ (s : ℕ). Marked s (entry i)) e (record { class = class-right i h; partner = λ c. partner-right i h })
+-- the table's sub-characters are those of rule 2, in their order
+placed : ℕ → Bool
+placed i = eqb (x i) (getD (bytes "|/\\[]{}()<>") i 0)
 
--- what no entry has is in no class
-pub not-marked : (z : ℕ) → ((k : ℕ) → k < 11 → x k ≡ z → ⊥) → classOf z ≡ 0
+all-placed : every placed 11 ≡ true
+unfolding every placed
+all-placed = refl
+
+placed-at : (i : ℕ) → i < 11 → x i ≡ getD (bytes "|/\\[]{}()<>") i 0
+unfolding placed
+placed-at i h = eqb-true (x i) (getD (bytes "|/\\[]{}()<>") i 0) (every-at placed 11 all-placed i h)
+
+-- an entry of the table is right of its sub-character
+pub marked : (i z : ℕ) → i < 11 → getD (bytes "|/\\[]{}()<>") i 0 ≡ z → Marked z (entry i)
+marked i z h e = subst (λ (s : ℕ). Marked s (entry i)) (placed-at i h ∙ e) (record { class = class-right i h; partner = λ c. partner-right i h })
+
+-- what is none of them is in no class
+pub not-marked : (z : ℕ) → (z ≡ 124 → ⊥) → (z ≡ 47 → ⊥) → (z ≡ 92 → ⊥) → (z ≡ 91 → ⊥) → (z ≡ 93 → ⊥) → (z ≡ 123 → ⊥) → (z ≡ 125 → ⊥) → (z ≡ 40 → ⊥) → (z ≡ 41 → ⊥) → (z ≡ 60 → ⊥) → (z ≡ 62 → ⊥) → classOf z ≡ 0
 unfolding classOf
-not-marked z f =
-    let n : (k a : ℕ) → k < 11 → x k ≡ a → eqb z a ≡ false = λ k a h e. ne-eqb z a (λ q. f k h (e ∙ sym q)) in
-    rw (n 0 124 (omega arith) refl, n 1 47 (omega arith) refl, n 2 92 (omega arith) refl, n 3 91 (omega arith) refl, n 4 93 (omega arith) refl, n 5 123 (omega arith) refl, n 6 125 (omega arith) refl, n 7 40 (omega arith) refl, n 8 41 (omega arith) refl, n 9 60 (omega arith) refl, n 10 62 (omega arith) refl)
+not-marked z a b c d e f g h i j k =
+    rw (ne-eqb z 124 a, ne-eqb z 47 b, ne-eqb z 92 c, ne-eqb z 91 d, ne-eqb z 93 e, ne-eqb z 123 f, ne-eqb z 125 g, ne-eqb z 40 h, ne-eqb z 41 i, ne-eqb z 60 j, ne-eqb z 62 k)

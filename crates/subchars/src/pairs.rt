@@ -8,8 +8,10 @@ use crate::Rule;
 use crate::Smushing;
 use crate::SubCharacter;
 ghost use mathlib.Core.Path.{_≡_};
-ghost use Prim.Native.Nat.{ℕ, _<_};
-ghost use Rattle.subchars.specs.Pair.{joinedIf, joinedBy, bigX, Marked, Apart, Visible, number, inSet, itsRule, kept, controlled, later, universal, smushed, joint, isJoined, joins, byteOf};
+ghost use Prim.Native.Nat.{ℕ, _<_, _≤_};
+ghost use lib.ListN.{getD};
+ghost use Rattle.ground.specs.Text.{bytes};
+ghost use Rattle.subchars.specs.Pair.{joinedIf, joinedBy, bigX, classOf, Marked, Apart, Visible, number, inSet, itsRule, kept, controlled, later, universal, smushed, joint, isJoined, joins, byteOf};
 
 const NONE: SubCharacter = SubCharacter(0);
 
@@ -72,17 +74,35 @@ const MARKS: [Mark; 11] = [
     },
 ];
 
+// The place of a sub-character in the table; 11 where it has none.
+fn place_of(x: SubCharacter) -> usize
+    ensures { λ i. ⌜ (i < 11 → getD (bytes "|/\\[]{}()<>") i 0 ≡ x .0) ⌝ }
+    ensures { λ i. ⌜ (11 ≤ i → classOf (x .0) ≡ 0) ⌝ }
+{
+    let b = x.0;
+    match b {
+        b'|' => 0,
+        b'/' => 1,
+        b'\\' => 2,
+        b'[' => 3,
+        b']' => 4,
+        b'{' => 5,
+        b'}' => 6,
+        b'(' => 7,
+        b')' => 8,
+        b'<' => 9,
+        b'>' => 10,
+        _ => 11,
+    }
+}
+
 // The table's entry of a sub-character; class 0 where it has none.
 fn mark_of(x: SubCharacter) -> Mark
     ensures { λ m. ⌜ Marked (x .0) m ⌝ }
 {
-    let mut i: usize = 0;
-    while i < 11 {
-        let m = MARKS[i];
-        if m.sub_character.0 == x.0 {
-            return m;
-        }
-        i += 1;
+    let i = place_of(x);
+    if i < 11 {
+        return MARKS[i];
     }
     Mark {
         sub_character: x,
