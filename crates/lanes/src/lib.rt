@@ -34,14 +34,14 @@ fn trailing_blanks(s: &[u8], start: usize, step: usize, n: usize, most: usize) -
     requires { ⌜ ((k : ℕ) → k < n → start + k * step < length (now s)) ⌝ }
     ensures { λ t. ⌜ Trailing (lane (now (s .entry)) start step) n most t ⌝ }
 {
-    let mut t: usize = 0;
-    while t < most {
-        if s[start + (n - (t + 1)) * step] != b' ' {
-            return t;
+    let mut left = most;
+    while 0 < left {
+        if s[start + (n - most + left - 1) * step] != b' ' {
+            return most - left;
         }
-        t += 1;
+        left -= 1;
     }
-    t
+    most
 }
 
 // The fitting overlap of h lanes, the first block's ends on the second block's starts. Each lane is looked at once, no further than the
