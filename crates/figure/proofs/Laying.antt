@@ -9,7 +9,7 @@ use native.Mathlib.Decide.{decLt}
 use lib.ListN.{length, getD}
 use Rattle.subchars.specs.declared.Mode.{Mode}
 use Rattle.join.specs.Writing.{fromOn, Stored}
-use Rattle.figure.specs.Scratch.{met, Laid, LaidRows}
+use Rattle.figure.specs.Scratch.{met, StoredRows, Laid, LaidRows}
 
 pub same-at : (l : List ℕ) {i j : ℕ} → i ≡ j → getD l i 0 ≡ getD l j 0
 same-at l e = ap (λ (k : ℕ). getD l k 0) e
@@ -19,74 +19,85 @@ pub others-fit : (p q o m : ℕ) → p + o ≤ m → ((p ≡ 0) × (q ≡ o)) �
 others-fit p q o m h (inl v) = omega (arith, v .1)
 others-fit p q o m h (inr v) = omega (arith, v .1)
 
--- a row in its two parts: what lies on the line, at the row's start or at its end, and the others
-module _ (y : Mode) (p q o m at from : ℕ) (s d b e : List ℕ) (fits : p + o ≤ m) (t : Stored (λ (j : ℕ). met y (fromOn d (at + p) j) (fromOn s (from + p) j)) (at + p) o d b) (u : Stored (fromOn s (from + q)) (at + q) (m - o) b e) where
-  laid-pair : (j : ℕ) → p ≤ j → j < p + o → getD b (at + j) 0 ≡ met y (getD d (at + j) 0) (getD s (from + j) 0)
-  laid-pair j g h =
-      let k : at + j ≡ at + p + (j - p) = omega arith in
-      let f : from + p + (j - p) ≡ from + j = omega arith in
-      same-at b k ∙ (t .inside (j - p) (omega arith) ∙ ap₂ (met y) (same-at d (sym k)) (same-at s f))
-
-  laid-other : (j : ℕ) → q ≤ j → j < q + (m - o) → getD e (at + j) 0 ≡ getD s (from + j) 0
-  laid-other j g h =
-      let k : at + j ≡ at + q + (j - q) = omega arith in
-      let f : from + q + (j - q) ≡ from + j = omega arith in
-      same-at e k ∙ (u .inside (j - q) (omega arith) ∙ same-at s f)
-
-  pub laid-row : ((p ≡ 0) × (q ≡ o)) ⊎ ((p + o ≡ m) × (q ≡ 0)) → (hi : ℕ) → Laid y p o m (fromOn s from) at 0 hi d e
-  laid-row (inl v) hi =
-      record {
-        before = λ j h. absurd (omega (arith, v .0));
-        paired = λ j g h. u .below (at + j) (omega (arith, v .0, v .1)) ∙ laid-pair j g h;
-        behind = λ j g h. laid-other j (omega (arith, v .0, v .1)) (omega (arith, v .1));
-        below = λ i g h. u .below i (omega arith) ∙ t .below i (omega arith);
-        above = λ i g h. u .above i (omega (arith, v .1)) ∙ t .above i (omega arith);
-      }
-  laid-row (inr v) hi =
-      record {
-        before = λ j h. laid-other j (omega (arith, v .1)) (omega (arith, v .0, v .1));
-        paired = λ j g h. u .above (at + j) (omega (arith, v .0, v .1)) ∙ laid-pair j g h;
-        behind = λ j g h. absurd (omega (arith, v .0));
-        below = λ i g h. u .below i (omega arith) ∙ t .below i (omega arith);
-        above = λ i g h. u .above i (omega (arith, v .1)) ∙ t .above i (omega arith);
-      }
-
--- one row more
-module _ (y : Mode) (r at p o m : ℕ) (s starts old l new : List ℕ) (zone : p + o ≤ m) (fits : at + m ≤ 1000) (rest : (i : ℕ) → r * 1000 ≤ i → getD l i 0 ≡ getD old i 0) (laid : (hi : ℕ) → Laid y p o m (fromOn s (getD starts r 0)) (r * 1000 + at) 0 hi l new) where
+-- One row more: r rows are as f says and those from the r-th on as they were.
+module _ (f : ℕ → ℕ → ℕ) (g : ℕ → ℕ) (r at w : ℕ) (old l new : List ℕ) (fits : at + w ≤ 1000) (rest : (i : ℕ) → r * 1000 ≤ i → getD l i 0 ≡ getD old i 0) (t : Stored g (r * 1000 + at) w l new) where
   pub rest-next : (i : ℕ) → (r + 1) * 1000 ≤ i → getD new i 0 ≡ getD old i 0
-  rest-next i h = laid (suc i) .above i (omega arith) (omega arith) ∙ rest i (omega arith)
-
-  this-row : Laid y p o m (fromOn s (getD starts r 0)) (r * 1000 + at) (r * 1000) (r * 1000 + 1000) old new
-  this-row =
-      let t = laid (r * 1000 + 1000) in
-      record {
-        before = t .before;
-        paired = λ j g h. t .paired j g h ∙ ap (λ (v : ℕ). met y v (fromOn s (getD starts r 0) j)) (rest (r * 1000 + at + j) (omega arith));
-        behind = t .behind;
-        below = λ i g h. t .below i (omega arith) h ∙ rest i g;
-        above = λ i g h. t .above i g h ∙ rest i (omega arith);
-      }
+  rest-next i h = t .above i (omega arith) ∙ rest i (omega arith)
 
   keep : (i : ℕ) → i < r * 1000 → getD new i 0 ≡ getD l i 0
-  keep i h = laid i .below i (omega arith) (omega arith)
+  keep i h = t .below i (omega arith)
 
-  old-row : (q : ℕ) → q < r → Laid y p o m (fromOn s (getD starts q 0)) (q * 1000 + at) (q * 1000) (q * 1000 + 1000) old l → Laid y p o m (fromOn s (getD starts q 0)) (q * 1000 + at) (q * 1000) (q * 1000 + 1000) old new
-  old-row q w t =
+  pub stored-next : ((j : ℕ) → j < w → g j ≡ f r j) → StoredRows f r at w old l → StoredRows f (r + 1) at w old new
+  stored-next same u =
       record {
-        before = λ j h. keep (q * 1000 + at + j) (omega arith) ∙ t .before j h;
-        paired = λ j g h. keep (q * 1000 + at + j) (omega arith) ∙ t .paired j g h;
-        behind = λ j g h. keep (q * 1000 + at + j) (omega arith) ∙ t .behind j g h;
-        below = λ i g h. keep i (omega arith) ∙ t .below i g h;
-        above = λ i g h. keep i (omega arith) ∙ t .above i g h;
-      }
-
-  pub laid-next : length new ≡ length l → LaidRows y r at p o m s starts old l → LaidRows y (r + 1) at p o m s starts old new
-  laid-next e t =
-      record {
-        size = e ∙ t .size;
-        rows = λ q u.
+        size = t .size ∙ u .size;
+        inside = λ q j h k.
             elim (decLt q r) [
-              | yes w ↦ old-row q w (t .rows q w)
-              | no z ↦ let f : q ≡ r = omega arith in rw f this-row
+              | yes v ↦ keep (q * 1000 + at + j) (omega arith) ∙ u .inside q j v k
+              | no v ↦ let e : q ≡ r = omega arith in rw e (t .inside j k ∙ same j k)
+            ];
+        below = λ q k h v.
+            elim (decLt q r) [
+              | yes z ↦ keep (q * 1000 + k) (omega arith) ∙ u .below q k z v
+              | no z ↦ t .below (q * 1000 + k) (omega arith) ∙ rest (q * 1000 + k) (omega arith)
+            ];
+        above = λ q k h v x.
+            elim (decLt q r) [
+              | yes z ↦ keep (q * 1000 + k) (omega arith) ∙ u .above q k z v x
+              | no z ↦ t .above (q * 1000 + k) (omega arith) ∙ rest (q * 1000 + k) (omega arith)
             ];
       }
+
+-- Rows in two parts: what lies on the line, at their start or at their end, and the others.
+module _ (y : Mode) (h at p q o m : ℕ) (s starts d b e : List ℕ) (fits : p + o ≤ m) (ends : at + m ≤ 1000)
+    (t : StoredRows (λ (r j : ℕ). met y (fromOn d (r * 1000 + (at + p)) j) (fromOn s (getD starts r 0 + p) j)) h (at + p) o d b)
+    (u : StoredRows (λ (r j : ℕ). fromOn s (getD starts r 0 + q) j) h (at + q) (m - o) b e) where
+  module _ (r : ℕ) (v : r < h) where
+    abbrev from : ℕ
+    from = getD starts r 0
+
+    laid-pair : (j : ℕ) → p ≤ j → j < p + o → getD b (r * 1000 + at + j) 0 ≡ met y (getD d (r * 1000 + at + j) 0) (getD s (from + j) 0)
+    laid-pair j g k =
+        let i : r * 1000 + at + j ≡ r * 1000 + (at + p) + (j - p) = omega arith in
+        let f : from + p + (j - p) ≡ from + j = omega arith in
+        same-at b i ∙ (t .inside r (j - p) v (omega arith) ∙ ap₂ (met y) (same-at d (sym i)) (same-at s f))
+
+    laid-other : (j : ℕ) → q ≤ j → j < q + (m - o) → getD e (r * 1000 + at + j) 0 ≡ getD s (from + j) 0
+    laid-other j g k =
+        let i : r * 1000 + at + j ≡ r * 1000 + (at + q) + (j - q) = omega arith in
+        let f : from + q + (j - q) ≡ from + j = omega arith in
+        same-at e i ∙ (u .inside r (j - q) v (omega arith) ∙ same-at s f)
+
+    -- a column of the row before and behind each part
+    under : (i : ℕ) → r * 1000 ≤ i → i < r * 1000 + (at + q) → getD e i 0 ≡ getD b i 0
+    under i g k = let z : i ≡ r * 1000 + (i - r * 1000) = omega arith in same-at e z ∙ (u .below r (i - r * 1000) v (omega arith) ∙ same-at b (sym z))
+
+    over : (i : ℕ) → r * 1000 + (at + q + (m - o)) ≤ i → i < r * 1000 + 1000 → getD e i 0 ≡ getD b i 0
+    over i g k = let z : i ≡ r * 1000 + (i - r * 1000) = omega arith in same-at e z ∙ (u .above r (i - r * 1000) v (omega arith) (omega arith) ∙ same-at b (sym z))
+
+    under-pair : (i : ℕ) → r * 1000 ≤ i → i < r * 1000 + (at + p) → getD b i 0 ≡ getD d i 0
+    under-pair i g k = let z : i ≡ r * 1000 + (i - r * 1000) = omega arith in same-at b z ∙ (t .below r (i - r * 1000) v (omega arith) ∙ same-at d (sym z))
+
+    over-pair : (i : ℕ) → r * 1000 + (at + p + o) ≤ i → i < r * 1000 + 1000 → getD b i 0 ≡ getD d i 0
+    over-pair i g k = let z : i ≡ r * 1000 + (i - r * 1000) = omega arith in same-at b z ∙ (t .above r (i - r * 1000) v (omega arith) (omega arith) ∙ same-at d (sym z))
+
+    laid-row : ((p ≡ 0) × (q ≡ o)) ⊎ ((p + o ≡ m) × (q ≡ 0)) → Laid y p o m (fromOn s from) (r * 1000 + at) (r * 1000) (r * 1000 + 1000) d e
+    laid-row (inl w) =
+        record {
+          before = λ j k. absurd (omega (arith, w .0));
+          paired = λ j g k. under (r * 1000 + at + j) (omega arith) (omega (arith, w .0, w .1)) ∙ laid-pair j g k;
+          behind = λ j g k. laid-other j (omega (arith, w .0, w .1)) (omega (arith, w .1));
+          below = λ i g k. under i g (omega arith) ∙ under-pair i g (omega arith);
+          above = λ i g k. over i (omega (arith, w .1)) k ∙ over-pair i (omega arith) k;
+        }
+    laid-row (inr w) =
+        record {
+          before = λ j k. laid-other j (omega (arith, w .1)) (omega (arith, w .0, w .1));
+          paired = λ j g k. over (r * 1000 + at + j) (omega (arith, w .0, w .1)) (omega arith) ∙ laid-pair j g k;
+          behind = λ j g k. absurd (omega (arith, w .0));
+          below = λ i g k. under i g (omega arith) ∙ under-pair i g (omega arith);
+          above = λ i g k. over i (omega (arith, w .1)) k ∙ over-pair i (omega arith) k;
+        }
+
+  pub laid-rows : ((p ≡ 0) × (q ≡ o)) ⊎ ((p + o ≡ m) × (q ≡ 0)) → LaidRows y h at p o m s starts d e
+  laid-rows w = record { size = u .size ∙ t .size; rows = λ r v. laid-row r v w }

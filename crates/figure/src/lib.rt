@@ -9,12 +9,12 @@ ghost use mathlib.Core.Path.{_≡_};
 ghost use mathlib.Core.Logic.{_⊎_};
 ghost use mathlib.Core.List.{_++_};
 ghost use Prim.Native.Nat.{ℕ, _+_, _*_, _-_, _<_, _≤_};
-ghost use lib.ListN.{length, take};
+ghost use lib.ListN.{length, getD, take};
 ghost use Rattle.ground.specs.Area.{values, zeros, padded};
 ghost use Rattle.join.specs.Join.{leftOf, rightOf, overlap, rowsOf};
 ghost use Rattle.join.specs.Writing.{fromOn, Stored, RowAfterRow};
 ghost use Rattle.figure.specs.Line.{attached, blanked, ended, outputOf, outputBytes};
-ghost use Rattle.figure.specs.Scratch.{lineStart, scratchLine, rowsAt, RowsIn, met, Laid, LaidRows, Holds};
+ghost use Rattle.figure.specs.Scratch.{lineStart, scratchLine, rowsAt, RowsIn, met, StoredRows, LaidRows, Holds};
 
 // What putting a line out comes to: its width, or a refusal's number.
 pub enum Output {
@@ -46,27 +46,42 @@ fn meet_row(area: &mut [u8], at: usize, mode: Mode, s: &[u8], from: usize, m: us
     }
 }
 
-// Lays one row of a FIGcharacter, m wide: its places p to p + o lie on the line's, at its start or at its end; those from q on are the others.
-fn lay_row(
+// Lays the places p to p + o of each of h rows on the line's, from column `at` on.
+fn meet_rows(
     area: &mut [u8],
     at: usize,
     mode: Mode,
     s: &[u8],
-    from: usize,
+    starts: &[usize],
     p: usize,
-    q: usize,
     o: usize,
-    m: usize,
+    h: usize,
 )
-    requires { ⌜ (p + o ≤ m) × (at + m ≤ length (now area)) × (from + m ≤ length (now s)) ⌝ }
-    requires { ⌜ ((p ≡ 0) × (q ≡ o)) ⊎ ((p + o ≡ m) × (q ≡ 0)) ⌝ }
-    ensures { λ _. ⌜ ((hi : ℕ) → Laid mode p o m (fromOn (now (s .entry)) from) at 0 hi (now (area .entry)) (now (area .exit))) ⌝ }
+    requires { ⌜ (h ≤ 32) × (at + o ≤ 1000) × (32000 ≤ length (now area)) ⌝ }
+    requires { ⌜ RowsIn (now s) (now starts) (p + o) h ⌝ }
+    ensures { λ _. ⌜ StoredRows (λ (r j : ℕ). met mode (fromOn (now (area .entry)) (r * 1000 + at) j) (fromOn (now (s .entry)) (getD (now (starts .entry)) r 0 + p) j)) h at o (now (area .entry)) (now (area .exit)) ⌝ }
 {
-    meet_row(area, at + p, mode, s, from + p, o);
-    join::copy_part(area, at + q, s, from + q, m - o);
+    let mut r: usize = 0;
+    while r < h {
+        meet_row(area, r * 1000 + at, mode, s, starts[r] + p, o);
+        r += 1;
+    }
 }
 
-// The same for each of h rows.
+// Copies the places q to q + n of each of h rows, to column `at` on.
+fn copy_rows(area: &mut [u8], at: usize, s: &[u8], starts: &[usize], q: usize, n: usize, h: usize)
+    requires { ⌜ (h ≤ 32) × (at + n ≤ 1000) × (32000 ≤ length (now area)) ⌝ }
+    requires { ⌜ RowsIn (now s) (now starts) (q + n) h ⌝ }
+    ensures { λ _. ⌜ StoredRows (λ (r j : ℕ). fromOn (now (s .entry)) (getD (now (starts .entry)) r 0 + q) j) h at n (now (area .entry)) (now (area .exit)) ⌝ }
+{
+    let mut r: usize = 0;
+    while r < h {
+        join::copy_part(area, r * 1000 + at, s, starts[r] + q, n);
+        r += 1;
+    }
+}
+
+// Lays the rows of a FIGcharacter, m wide: its places p to p + o lie on the line's, at its start or at its end; those from q on are the others.
 fn lay(
     area: &mut [u8],
     at: usize,
@@ -84,11 +99,8 @@ fn lay(
     requires { ⌜ ((p ≡ 0) × (q ≡ o)) ⊎ ((p + o ≡ m) × (q ≡ 0)) ⌝ }
     ensures { λ _. ⌜ LaidRows mode h at p o m (now (s .entry)) (now (starts .entry)) (now (area .entry)) (now (area .exit)) ⌝ }
 {
-    let mut r: usize = 0;
-    while r < h {
-        lay_row(area, r * 1000 + at, mode, s, starts[r], p, q, o, m);
-        r += 1;
-    }
+    meet_rows(area, at + p, mode, s, starts, p, o, h);
+    copy_rows(area, at + q, s, starts, q, m - o, h);
 }
 
 // The overlap of the line, n wide, and a FIGcharacter, m wide, whose rows start at the given places.
