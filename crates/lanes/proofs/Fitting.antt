@@ -2,13 +2,13 @@
 -- Assumes nothing.
 use mathlib.Core.Path.{_≡_, refl, sym, _∙_, ap}
 use mathlib.Core.Bool.{Bool, true, false, _&&_}
-use Prim.Native.Nat.{ℕ, suc, _+_, _-_, _≤_, _<_, min}
+use Prim.Native.Nat.{ℕ, zero, suc, _+_, _-_, _≤_, _<_, min}
 use native.Mathlib.Omega.{arith}
 use native.Mathlib.Decide.{decLe, decLt}
 use lib.Dec.{eqb}
 use borrow.Author.Tests.{eq-eqb, ne-eqb}
 use Rattle.ground.specs.Count.{every, reach}
-use Rattle.ground.proofs.Tests.{and-both, and-left-false, and-right-false, or-left, or-right, not-true-false, never-both}
+use Rattle.ground.proofs.Tests.{and-both, and-left, and-left-false, and-right-false, or-left, or-right, not-true-false, never-both}
 use Rattle.ground.proofs.Counting.{every-at, every-of, reach-le, reach-all, reach-stop, reach-is}
 use Rattle.subchars.specs.Pair.{blank}
 use Rattle.lanes.specs.Blocks.{Block}
@@ -96,3 +96,28 @@ module _ (n m : ℕ) (a b : Block) where
                 stop-at (suc (t + l))
                 (and-right-false (free r n a b (suc (t + l))) _ (lane-stop (a r) (b r) n R t l tr ld (omega (arith, low)) (omega arith))) refl
           ]
+
+  -- a lane more allows no more
+  fitting-step : (r : ℕ) → fitting (suc r) n m a b ≤ fitting r n m a b
+  unfolding fitting
+  fitting-step r =
+      let R = reach (free r n a b) (min n m) in
+      let S = reach (free (suc r) n a b) (min n m) in
+      let low : S ≤ min n m = reach-le (free (suc r) n a b) (min n m) in
+      elim (decLe S R) [
+        | yes p ↦ p
+        | no q ↦
+            absurd
+            (never-both (free r n a b (suc R))
+            (and-left (free r n a b (suc R)) (laneFacing hasBlank n (a r) (b r) (suc R))
+            (sym (facing-suc hasBlank r n a b (suc R)) ∙ reach-all (free (suc r) n a b) (free-none (suc r)) (min n m) (suc R) (omega arith)))
+            (reach-stop (free r n a b) (free-none r) (min n m) (omega arith)))
+      ]
+
+  pub fitting-less : (r h : ℕ) → r ≤ h → fitting h n m a b ≤ fitting r n m a b
+  fitting-less r zero u = let e : r ≡ 0 = omega arith in rw e (omega arith)
+  fitting-less r (suc h) u =
+      elim (decLe r h) [
+        | yes p ↦ omega (arith, fitting-step h, fitting-less r h p)
+        | no q ↦ let e : r ≡ suc h = omega arith in rw e (omega arith)
+      ]

@@ -45,7 +45,7 @@ fn trailing_blanks(s: &[u8], start: usize, step: usize, n: usize, most: usize) -
 }
 
 // The fitting overlap of h lanes, the first block's ends on the second block's starts. Each lane is looked at once, no further than the
-// lanes before it allow.
+// lanes before it allow; where they allow nothing, not at all.
 pub fn fitting_overlap(
     first: &[u8],
     a_starts: &[usize],
@@ -63,11 +63,11 @@ pub fn fitting_overlap(
     let n = a.len;
     let m = b.len;
     let mut best = ground::smaller(n, m);
-    if best == 0 {
-        return 0;
-    }
     let mut r: usize = 0;
     while r < h {
+        if best == 0 {
+            return 0;
+        }
         let t = trailing_blanks(first, a.base + a_starts[r], a.along, n, best);
         let l = leading_blanks(second, b.base + b_starts[r], b.along, best - t);
         best = t + l;

@@ -8,7 +8,7 @@ use lib.ListN.{length}
 use borrow.Author.Needs.{needs}
 use Rattle.lanes.specs.Blocks.{Block, startOf, block}
 use Rattle.lanes.specs.Overlap.{fitting, Leading, Trailing}
-use Rattle.lanes.proofs.Fitting.{fitting-none, fitting-lane, fitting-le}
+use Rattle.lanes.proofs.Fitting.{fitting-none, fitting-lane, fitting-le, fitting-less}
 use Rattle.lanes.proofs.fitting_overlap.Statement.{statement}
 use Rattle.lanes.proofs.fitting_overlap.Tie as tie
 
@@ -31,7 +31,7 @@ abbrev In : Type 0
 In = tie.In-loop Inv-loop μ-loop
 
 abbrev start : In → St
-start q = q .before .before .before .before .before .before .before .before
+start q = q .before .before .before .before .before .before .before
 
 -- lane r of each block is within its slice
 first-begins : (q : In) → startOf (start q .args .a-starts .now) (start q .args .a) (q .before .loop .r) ≤ length (start q .args .first .now)
@@ -48,49 +48,51 @@ bound q =
 smaller-requires : tie.Need-smaller-requires Inv-loop μ-loop
 smaller-requires c κs = search needs
 
-returns : tie.Need-returns Inv-loop μ-loop
-returns c =
-    let s = c .before .before .before .before .before .before in
-    omega (arith, fitting-le (s .args .a .len) (s .args .b .len) (block-of s) (other-of s) (s .args .h))
-
 loop-holds : tie.Need-loop-holds Inv-loop μ-loop
 loop-holds c =
-    let s = c .before .before .before .before .before .before in
-    (search needs, c .before .smaller .ensures ∙ sym (fitting-none (s .args .a .len) (s .args .b .len) (block-of s) (other-of s)))
+    let s = c .before .before .before .before .before in
+    (search needs, c .smaller .ensures ∙ sym (fitting-none (s .args .a .len) (s .args .b .len) (block-of s) (other-of s)))
+
+returns : tie.Need-returns Inv-loop μ-loop
+returns c =
+    let q = c .before in
+    let s = start q in
+    let l = q .before .loop in
+    omega (arith, l .inv .1, c .if1 .taken, fitting-less (s .args .a .len) (s .args .b .len) (block-of s) (other-of s) (l .r) (s .args .h) (l .inv .0))
 
 mul-trailing-blanks : tie.Need-mul-trailing-blanks Inv-loop μ-loop
-mul-trailing-blanks c = omega (arith, start c .pre .1 .0 .lanes)
+mul-trailing-blanks c = omega (arith, start (c .before) .pre .1 .0 .lanes)
 
 shared-slice-read-trailing-blanks : tie.Need-shared-slice-read-trailing-blanks Inv-loop μ-loop
-shared-slice-read-trailing-blanks c = omega (arith, start (c .before) .pre .1 .0 .lanes)
+shared-slice-read-trailing-blanks c = omega (arith, start (c .before .before) .pre .1 .0 .lanes)
 
 add-trailing-blanks : tie.Need-add-trailing-blanks Inv-loop μ-loop
-add-trailing-blanks c = omega (arith, first-begins (c .before .before))
+add-trailing-blanks c = omega (arith, first-begins (c .before .before .before))
 
 trailing-blanks-requires : tie.Need-trailing-blanks-requires Inv-loop μ-loop
 trailing-blanks-requires c κs =
-    let q = c .before .before in
+    let q = c .before .before .before in
     (omega (arith, bound q), λ k u. start q .pre .1 .0 .cells (q .before .loop .r) k (omega arith) u)
 
 mul-leading-blanks : tie.Need-mul-leading-blanks Inv-loop μ-loop
-mul-leading-blanks c = omega (arith, start (c .before .before .before) .pre .1 .1 .lanes)
+mul-leading-blanks c = omega (arith, start (c .before .before .before .before) .pre .1 .1 .lanes)
 
 shared-slice-read-leading-blanks : tie.Need-shared-slice-read-leading-blanks Inv-loop μ-loop
-shared-slice-read-leading-blanks c = omega (arith, start (c .before .before .before .before) .pre .1 .1 .lanes)
+shared-slice-read-leading-blanks c = omega (arith, start (c .before .before .before .before .before) .pre .1 .1 .lanes)
 
 add-leading-blanks : tie.Need-add-leading-blanks Inv-loop μ-loop
-add-leading-blanks c = omega (arith, second-begins (c .before .before .before .before .before))
+add-leading-blanks c = omega (arith, second-begins (c .before .before .before .before .before .before))
 
 sub-leading-blanks : tie.Need-sub-leading-blanks Inv-loop μ-loop
 sub-leading-blanks c = omega (arith, c .before .before .trailing-blanks .ensures .within)
 
 leading-blanks-requires : tie.Need-leading-blanks-requires Inv-loop μ-loop
 leading-blanks-requires c κs =
-    let q = c .before .before .before .before .before in
+    let q = c .before .before .before .before .before .before in
     λ k u. start q .pre .1 .1 .cells (q .before .loop .r) k (omega arith) (omega (arith, bound q))
 
 add-best : tie.Need-add-best Inv-loop μ-loop
-add-best c = omega (arith, bound (c .before .before .before .before .before .before), c .before .before .before .trailing-blanks .ensures .within, c .leading-blanks .ensures .within)
+add-best c = omega (arith, bound (c .before .before .before .before .before .before .before), c .before .before .before .trailing-blanks .ensures .within, c .leading-blanks .ensures .within)
 
 add-r : tie.Need-add-r Inv-loop μ-loop
 add-r c = omega arith
@@ -100,7 +102,7 @@ loop-less c = omega arith
 
 loop-again : tie.Need-loop-again Inv-loop μ-loop
 loop-again c =
-    let q = c .before .before .before .before .before .before in
+    let q = c .before .before .before .before .before .before .before in
     let s = start q in
     let r = q .before .loop .r in
     let t = c .before .before .before .trailing-blanks in
@@ -116,7 +118,7 @@ loop-again c =
 returns-2 : tie.Need-returns-2 Inv-loop μ-loop
 returns-2 c =
     let l = c .before .loop in
-    let e : l .r ≡ c .before .before .before .before .before .before .before .before .args .h = omega arith in
+    let e : l .r ≡ c .before .before .before .before .before .before .before .args .h = omega arith in
     rw e at (l .inv .1)
 
 pub fitting-overlap-spec : {M : Type 1} → statement M
@@ -126,8 +128,8 @@ fitting-overlap-spec =
     Inv-loop
     μ-loop
     smaller-requires
-    returns
     loop-holds
+    returns
     mul-trailing-blanks
     shared-slice-read-trailing-blanks
     add-trailing-blanks
