@@ -7,12 +7,25 @@ use Prim.Native.Nat.{ℕ, suc, _+_, _-_, _*_, _≤_, _<_}
 use native.Mathlib.Omega.{arith}
 use native.Mathlib.Decide.{decLt}
 use lib.ListN.{length, getD}
+use Rattle.subchars.specs.declared.Direction.{Direction}
+use Rattle.subchars.specs.declared.Direction.the-variants.{LeftToRight, RightToLeft}
 use Rattle.subchars.specs.declared.Mode.{Mode}
+use Rattle.subchars.specs.Pair.{blank, byteOf}
+use Rattle.subchars.proofs.Joints.{blank-left, blank-right}
 use Rattle.join.specs.Writing.{fromOn, Stored}
-use Rattle.figure.specs.Scratch.{met, StoredRows, Laid, LaidRows}
+use Rattle.figure.specs.Scratch.{metBy, met, StoredRows, Laid, LaidRows}
 
 pub same-at : (l : List ℕ) {i j : ℕ} → i ≡ j → getD l i 0 ≡ getD l j 0
 same-at l e = ap (λ (k : ℕ). getD l k 0) e
+
+-- a blank leaves what lies there
+met-by-blank : (d : Direction) (y : Mode) (l x : ℕ) → x ≡ blank → metBy d y l x ≡ l
+met-by-blank LeftToRight y l x e = ap byteOf (blank-right y l x e)
+met-by-blank RightToLeft y l x e = ap byteOf (blank-left y x l e)
+
+pub met-blank : (y : Mode) (l x : ℕ) → x ≡ blank → met y l x ≡ l
+unfolding met
+met-blank y l x e = met-by-blank (y .direction) y l x e
 
 -- where the others end
 pub others-fit : (p q o m : ℕ) → p + o ≤ m → ((p ≡ 0) × (q ≡ o)) ⊎ ((p + o ≡ m) × (q ≡ 0)) → q + (m - o) ≤ m

@@ -9,7 +9,7 @@ ghost use mathlib.Core.Path.{_≡_};
 ghost use mathlib.Core.Logic.{_⊎_};
 ghost use mathlib.Core.List.{_++_};
 ghost use Prim.Native.Nat.{ℕ, _+_, _*_, _-_, _<_, _≤_};
-ghost use lib.ListN.{length, getD, take};
+ghost use lib.ListN.{length, getD, set, take};
 ghost use Rattle.ground.specs.Area.{values, zeros, padded};
 ghost use Rattle.join.specs.Join.{leftOf, rightOf, overlap, rowsOf};
 ghost use Rattle.join.specs.Writing.{fromOn, Stored, RowAfterRow};
@@ -33,6 +33,17 @@ fn meet(mode: Mode, l: SubCharacter, x: SubCharacter) -> SubCharacter
     }
 }
 
+// Lays a sub-character on the one at a place. A blank leaves what lies there.
+fn meet_at(area: &mut [u8], at: usize, mode: Mode, x: SubCharacter)
+    requires { ⌜ at < length (now area) ⌝ }
+    ensures { λ _. ⌜ now (area .exit) ≡ set (now (area .entry)) at (met mode (getD (now (area .entry)) at 0) (x .0)) ⌝ }
+{
+    if x.0 != b' ' {
+        let z = meet(mode, SubCharacter(area[at]), x);
+        area[at] = z.0;
+    }
+}
+
 // Lays s[from..from + m] on area[at..].
 fn meet_row(area: &mut [u8], at: usize, mode: Mode, s: &[u8], from: usize, m: usize)
     requires { ⌜ (at + m ≤ length (now area)) × (from + m ≤ length (now s)) ⌝ }
@@ -40,8 +51,7 @@ fn meet_row(area: &mut [u8], at: usize, mode: Mode, s: &[u8], from: usize, m: us
 {
     let mut k: usize = 0;
     while k < m {
-        let z = meet(mode, SubCharacter(area[at + k]), SubCharacter(s[from + k]));
-        area[at + k] = z.0;
+        meet_at(area, at + k, mode, SubCharacter(s[from + k]));
         k += 1;
     }
 }
