@@ -1,7 +1,7 @@
 -- A FIGcharacter's rows laid on the line's: the parts of a row, and one row more.
 -- Assumes nothing.
 use mathlib.Core.Path.{_≡_, sym, _∙_, ap, ap₂}
-use mathlib.Core.Logic.{_⊎_, inl, inr}
+use mathlib.Core.Logic.{inl, inr}
 use mathlib.Core.List.{List}
 use Prim.Native.Nat.{ℕ, suc, _+_, _-_, _*_, _≤_, _<_}
 use native.Mathlib.Omega.{arith}
@@ -13,7 +13,7 @@ use Rattle.subchars.specs.declared.Mode.{Mode}
 use Rattle.subchars.specs.Pair.{blank, byteOf}
 use Rattle.subchars.proofs.Joints.{blank-left, blank-right}
 use Rattle.join.specs.Writing.{fromOn, Stored}
-use Rattle.figure.specs.Scratch.{metBy, met, StoredRows, Laid, LaidRows}
+use Rattle.figure.specs.Scratch.{metBy, met, StoredRows, Parted, Laid, LaidRows}
 
 pub same-at : (l : List ℕ) {i j : ℕ} → i ≡ j → getD l i 0 ≡ getD l j 0
 same-at l e = ap (λ (k : ℕ). getD l k 0) e
@@ -28,7 +28,7 @@ unfolding met
 met-blank y l x e = met-by-blank (y .direction) y l x e
 
 -- where the others end
-pub others-fit : (p q o m : ℕ) → p + o ≤ m → ((p ≡ 0) × (q ≡ o)) ⊎ ((p + o ≡ m) × (q ≡ 0)) → q + (m - o) ≤ m
+pub others-fit : (p q o m : ℕ) → p + o ≤ m → Parted p q o m → q + (m - o) ≤ m
 others-fit p q o m h (inl v) = omega (arith, v .1)
 others-fit p q o m h (inr v) = omega (arith, v .1)
 
@@ -94,7 +94,7 @@ module _ (y : Mode) (h at p q o m : ℕ) (s starts d b e : List ℕ) (fits : p +
     over-pair : (i : ℕ) → r * 1000 + (at + p + o) ≤ i → i < r * 1000 + 1000 → getD b i 0 ≡ getD d i 0
     over-pair i g k = let z : i ≡ r * 1000 + (i - r * 1000) = omega arith in same-at b z ∙ (t .above r (i - r * 1000) v (omega arith) (omega arith) ∙ same-at d (sym z))
 
-    laid-row : ((p ≡ 0) × (q ≡ o)) ⊎ ((p + o ≡ m) × (q ≡ 0)) → Laid y p o m (fromOn s from) (r * 1000 + at) (r * 1000) (r * 1000 + 1000) d e
+    laid-row : Parted p q o m → Laid y p o m (fromOn s from) (r * 1000 + at) (r * 1000) (r * 1000 + 1000) d e
     laid-row (inl w) =
         record {
           before = λ j k. absurd (omega (arith, w .0));
@@ -112,5 +112,5 @@ module _ (y : Mode) (h at p q o m : ℕ) (s starts d b e : List ℕ) (fits : p +
           above = λ i g k. over i (omega (arith, w .1)) k ∙ over-pair i (omega arith) k;
         }
 
-  pub laid-rows : ((p ≡ 0) × (q ≡ o)) ⊎ ((p + o ≡ m) × (q ≡ 0)) → LaidRows y h at p o m s starts d e
+  pub laid-rows : Parted p q o m → LaidRows y h at p o m s starts d e
   laid-rows w = record { size = u .size ∙ t .size; rows = λ r v. laid-row r v w }

@@ -1,7 +1,7 @@
 -- What the area holds after a FIGcharacter was laid is the join of the definition, in either direction.
 -- Assumes nothing.
 use mathlib.Core.Path.{_≡_, refl, sym, _∙_, ap, subst}
-use mathlib.Core.Logic.{_⊎_, inl, inr}
+use mathlib.Core.Logic.{inl, inr}
 use mathlib.Core.List.{List}
 use Prim.Native.Nat.{ℕ, _+_, _-_, _*_, _≤_, min}
 use native.Mathlib.Omega.{arith}
@@ -18,7 +18,7 @@ use Rattle.join.proofs.Cells.{cell-left, cell-pair, cell-right}
 use Rattle.join.proofs.Demand.{overlap-narrower}
 use Rattle.join.proofs.Likeness.{Like}
 use Rattle.figure.specs.Line.{attached}
-use Rattle.figure.specs.Scratch.{lineStart, scratchLine, rowsAt, RowsIn, metBy, met, LaidRows, Holds}
+use Rattle.figure.specs.Scratch.{lineStart, scratchLine, rowsAt, RowsIn, metBy, met, Parted, LaidRows, Holds}
 use Rattle.figure.proofs.Laying.{same-at}
 
 met-is : (d : Direction) (y : Mode) (l x : ℕ) → y .direction ≡ d → met y l x ≡ metBy d y l x
@@ -108,7 +108,7 @@ pub face-fits : (d : Direction) (m o p : ℕ) → o ≤ m → Picked d 0 (m - o)
 face-fits LeftToRight m o p u f = omega (arith, f .0 refl)
 face-fits RightToLeft m o p u f = omega (arith, f .1 refl)
 
-pub sides : (d : Direction) (m o p q : ℕ) → o ≤ m → Picked d 0 (m - o) p → Picked d o 0 q → ((p ≡ 0) × (q ≡ o)) ⊎ ((p + o ≡ m) × (q ≡ 0))
+pub sides : (d : Direction) (m o p q : ℕ) → o ≤ m → Picked d 0 (m - o) p → Picked d o 0 q → Parted p q o m
 sides LeftToRight m o p q u f g = inl (f .0 refl, g .0 refl)
 sides RightToLeft m o p q u f g = inr (omega (arith, f .1 refl), g .1 refl)
 

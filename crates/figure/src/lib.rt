@@ -6,7 +6,6 @@ use subchars::Direction;
 use subchars::Mode;
 use subchars::SubCharacter;
 ghost use mathlib.Core.Path.{_≡_};
-ghost use mathlib.Core.Logic.{_⊎_};
 ghost use mathlib.Core.List.{_++_};
 ghost use Prim.Native.Nat.{ℕ, _+_, _*_, _-_, _<_, _≤_};
 ghost use lib.ListN.{length, getD, set, take};
@@ -14,7 +13,7 @@ ghost use Rattle.ground.specs.Area.{values, zeros, padded};
 ghost use Rattle.join.specs.Join.{leftOf, rightOf, overlap, rowsOf};
 ghost use Rattle.join.specs.Writing.{fromOn, Stored, RowAfterRow};
 ghost use Rattle.figure.specs.Line.{attached, blanked, ended, outputOf, outputBytes};
-ghost use Rattle.figure.specs.Scratch.{lineStart, scratchLine, rowsAt, RowsIn, met, StoredRows, LaidRows, Holds};
+ghost use Rattle.figure.specs.Scratch.{lineStart, scratchLine, rowsAt, RowsIn, met, StoredRows, Parted, LaidRows, Holds};
 
 // What putting a line out comes to: its width, or a refusal's number.
 pub enum Output {
@@ -91,7 +90,7 @@ fn copy_rows(area: &mut [u8], at: usize, s: &[u8], starts: &[usize], q: usize, n
     }
 }
 
-// Lays the rows of a FIGcharacter, m wide: its places p to p + o lie on the line's, at its start or at its end; those from q on are the others.
+// Lays the rows of a FIGcharacter, m wide: its places p to p + o lie on the line's, and those from q on beside it.
 fn lay(
     area: &mut [u8],
     at: usize,
@@ -106,7 +105,7 @@ fn lay(
 )
     requires { ⌜ (h ≤ 32) × (p + o ≤ m) × (at + m ≤ 1000) × (32000 ≤ length (now area)) ⌝ }
     requires { ⌜ RowsIn (now s) (now starts) m h ⌝ }
-    requires { ⌜ ((p ≡ 0) × (q ≡ o)) ⊎ ((p + o ≡ m) × (q ≡ 0)) ⌝ }
+    requires { ⌜ Parted p q o m ⌝ }
     ensures { λ _. ⌜ LaidRows mode h at p o m (now (s .entry)) (now (starts .entry)) (now (area .entry)) (now (area .exit)) ⌝ }
 {
     meet_rows(area, at + p, mode, s, starts, p, o, h);
@@ -155,6 +154,7 @@ fn over(
     }
 }
 
+// One of two numbers, by the direction.
 fn by_direction(direction: Direction, rightward: usize, leftward: usize) -> usize
     ensures { λ r. ⌜ (direction ≡ Direction.LeftToRight → r ≡ rightward) ⌝ }
     ensures { λ r. ⌜ (direction ≡ Direction.RightToLeft → r ≡ leftward) ⌝ }
