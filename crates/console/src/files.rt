@@ -90,13 +90,24 @@ fn draw_long() {
     draw_with(&font[..n]);
 }
 
+// Draws by a font that is not small; one that fills the buffer is loaded again.
+fn draw_middle() {
+    let mut font = [0u8; 32768];
+    let n = load(b"font.flf", &mut font);
+    if n == 32768 {
+        draw_long();
+        return;
+    }
+    draw_with(&font[..n]);
+}
+
 // Draws each line of standard input by font.flf and, if present, control.flc. Most fonts fit a small buffer, whose zeros cost less at the
 // start; one that fills it is loaded again.
 pub fn run() {
     let mut font = [0u8; 8192];
     let n = load(b"font.flf", &mut font);
     if n == 8192 {
-        draw_long();
+        draw_middle();
         return;
     }
     draw_with(&font[..n]);

@@ -23,7 +23,7 @@ use Rattle.reader.specs.declared.Use.{Use}
 use Rattle.reader.specs.declared.Use.the-variants.{Used, Nothing}
 use Rattle.reader.specs.Reader.{entriesOf, used}
 use Rattle.request.proofs.RowLaws.{RowStands, used-stands}
-use Rattle.lines.specs.Lines.{after}
+use Rattle.lines.specs.Lines.{lineEnd, after}
 use Rattle.drawing.specs.Drawing.{modeOf, characterOf}
 use Rattle.drawing.specs.Held.{FontHeld}
 use Rattle.drawing.specs.Steps.{Standing, RowPlaces, withCharacter, Reached}
@@ -32,6 +32,9 @@ module _ (s : List ℕ) (h : Header) (count : ℕ) (codes : List ℤ) (starts wi
   -- a font has at most 32 rows
   pub few-rows : h .height ≤ maxHeight
   few-rows = font-read s h (held .characters) (held .said) .high .1
+
+  pub some-rows : 0 < h .height
+  some-rows = font-read s h (held .characters) (held .said) .high .0
 
   -- the font's characters
   pub held-characters : entriesOf (reading s) ≡ held .characters
@@ -58,6 +61,9 @@ module _ (s : List ℕ) (h : Header) (count : ℕ) (codes : List ℤ) (starts wi
 
       pub standing : Standing s (e .start) (e .width) (h .height)
       standing = record { ends = λ r l. stands r l .ends; fits = λ r l. stands r l .fits }
+
+      pub marked : (r : ℕ) → r < h .height → after r s (e .start) + e .width < lineEnd s (after r s (e .start))
+      marked r l = stands r l .marked
 
       pub narrow : e .width ≤ 65536
       narrow = let f = font-read s h (held .characters) (held .said) in omega (arith, stands 0 (f .high .0) .fits, f .short)

@@ -19,11 +19,11 @@ use subchars::Mode;
 ghost use mathlib.Core.Path.{_≡_};
 ghost use mathlib.Core.Bool.{true};
 ghost use mathlib.Core.List.{List};
-ghost use Prim.Native.Nat.{ℕ, _+_, _≤_};
+ghost use Prim.Native.Nat.{ℕ, _+_, _<_, _≤_};
 ghost use lib.IntN.{pos};
 ghost use lib.ListN.{length};
 ghost use Rattle.ground.specs.Limits.{maxCharacters, maxCommands};
-ghost use Rattle.lines.specs.Lines.{nextStart};
+ghost use Rattle.lines.specs.Lines.{lineEnd, nextStart, after};
 ghost use Rattle.chars.specs.Codes.{code};
 ghost use Rattle.font.specs.Font.{reading};
 ghost use Rattle.index.specs.Index.{Room};
@@ -72,26 +72,20 @@ fn mode_of(header: Header) -> Mode
     }
 }
 
-// Whether one byte of a line and an LF stand at a place: what is behind most rows of a font.
+// Whether an LF stands directly behind a byte of a line: so most rows of a font end, by one endmark.
 fn one_mark(font: &[u8], at: usize) -> bool
-    requires { ⌜ at ≤ length (now font) ⌝ }
+    requires { ⌜ at < lineEnd (now font) at ⌝ }
     ensures { λ b. ⌜ (b ≡ true → nextStart (now (font .entry)) at ≡ at + 2) ⌝ }
 {
     if font.len() <= at + 1 {
         return false;
     }
-    if font[at + 1] != b'\n' {
-        return false;
-    }
-    if font[at] == b'\n' {
-        return false;
-    }
-    font[at] != b'\r'
+    font[at + 1] == b'\n'
 }
 
-// Where the line behind a place starts.
+// Where the line behind a byte of a line starts.
 fn next_place(font: &[u8], at: usize) -> usize
-    requires { ⌜ at ≤ length (now font) ⌝ }
+    requires { ⌜ at < lineEnd (now font) at ⌝ }
     ensures { λ r. ⌜ r ≡ nextStart (now (font .entry)) at ⌝ }
 {
     if one_mark(font, at) {
@@ -110,22 +104,25 @@ fn next_place(font: &[u8], at: usize) -> usize
 
 // Where the rows of a FIGcharacter start. A row's own bytes are passed over: only the endmarks behind them are looked at.
 fn find_rows(font: &[u8], start: usize, width: usize, h: usize, rows: &mut [usize])
-    requires { ⌜ h ≤ length (now rows) ⌝ }
+    requires { ⌜ (0 < h) × (h ≤ length (now rows)) ⌝ }
     requires { ⌜ Standing (now font) start width h ⌝ }
+    requires { ⌜ ((r : ℕ) → r < h → after r (now font) start + width < lineEnd (now font) (after r (now font) start)) ⌝ }
     ensures { λ _. ⌜ RowPlaces (now (font .entry)) start h (now (rows .exit)) ⌝ }
 {
-    let mut r: usize = 0;
+    rows[0] = start;
+    let mut last: usize = 0;
     let mut at = start;
-    while r < h {
-        rows[r] = at;
+    while last + 1 < h {
         at = next_place(font, at + width);
-        r += 1;
+        last += 1;
+        rows[last] = at;
     }
 }
 
-// Joins the FIGcharacter that is used for a code to the line, n wide, in the area; answers the new width.
+// Joins the FIGcharacter that is used for a code to the line, n wide, in the area; answers the new width. Its rows are found in a lent list.
 fn draw_code(
     area: &mut [u8],
+    found: &mut [usize],
     rows: &[usize],
     n: usize,
     code: Code,
@@ -140,7 +137,7 @@ fn draw_code(
 ) -> usize
     requires { ⌜ FontHeld (now font) header count (now codes) (now starts) (now widths) (now places) ⌝ }
     requires { ⌜ mode ≡ modeOf header ⌝ }
-    requires { ⌜ (n ≤ 1000) × (32000 ≤ length (now area)) ⌝ }
+    requires { ⌜ (n ≤ 1000) × (32000 ≤ length (now area)) × (32 ≤ length (now found)) ⌝ }
     requires { ⌜ RowAfterRow 1000 (header .height) (now rows) ⌝ }
     ensures { λ w. ⌜ Reached header w (now (area .exit)) (withCharacter header (now (font .entry)) (used code (entriesOf (reading (now (font .entry))))) (scratchLine (modeOf header .direction) n (now (area .entry)))) ⌝ }
 {
@@ -149,9 +146,8 @@ fn draw_code(
             let start = entry.start;
             let width = entry.width;
             let height = header.height;
-            let mut at = [0usize; limits::MAX_HEIGHT];
-            find_rows(font, start, width, height, &mut at);
-            figure::attach(area, rows, n, mode, font, &at, width, height)
+            find_rows(font, start, width, height, found);
+            figure::attach(area, rows, n, mode, font, found, width, height)
         }
         Use::Nothing => n,
     }
@@ -189,6 +185,7 @@ fn join_text(
     ensures { λ w. ⌜ ((control : List ℕ) (held : ControlHeld control commands (now (stages .entry)) (now (firsts .entry)) (now (lasts .entry)) (now (news .entry))) → Reached header w (now (area .exit)) (lineOf (now (font .entry)) header (entriesOf (reading (now (font .entry)))) (held .commands) (held .count) (now (text .entry)))) ⌝ }
 {
     let rows = join::row_starts(limits::MAX_LINE_WIDTH, header.height);
+    let mut found = [0usize; limits::MAX_HEIGHT];
     let mut n: usize = 0;
     let mut i: usize = 0;
     while i < text.len() {
@@ -196,6 +193,7 @@ fn join_text(
         let code = mapping::map_by(stages, firsts, lasts, news, commands, byte);
         n = draw_code(
             area,
+            &mut found,
             &rows,
             n,
             code,

@@ -2,6 +2,7 @@
 -- Assumes nothing.
 use mathlib.Core.Path.{_≡_}
 use Prim.Native.Nat.{ℕ, _+_, _*_, _-_, _<_, _≤_}
+use mathlib.Core.Logic.{_⊎_}
 use mathlib.Core.List.{List}
 use lib.ListN.{length, getD}
 use Rattle.subchars.specs.declared.Direction.{Direction}
@@ -36,6 +37,17 @@ metBy RightToLeft y l x = pairByte y x l
 
 unfoldable pub met : Mode → ℕ → ℕ → ℕ
 met y l x = metBy (y .direction) y l x
+
+-- In each of the first h rows the w columns from `at` on are those of f, and the others are as they were.
+pub record StoredRows (f : ℕ → ℕ → ℕ) (h at w : ℕ) (old new : List ℕ) : Type 0 where
+  pub size : length new ≡ length old
+  pub inside : (r j : ℕ) → r < h → j < w → getD new (r * 1000 + at + j) 0 ≡ f r j
+  pub below : (r k : ℕ) → r < h → k < at → getD new (r * 1000 + k) 0 ≡ getD old (r * 1000 + k) 0
+  pub above : (r k : ℕ) → r < h → at + w ≤ k → k < 1000 → getD new (r * 1000 + k) 0 ≡ getD old (r * 1000 + k) 0
+
+-- Of m places the o from p on are at the start or at the end, and the others are those from q on.
+abbrev pub Parted : ℕ → ℕ → ℕ → ℕ → Type 0
+Parted p q o m = ((p ≡ 0) × (q ≡ o)) ⊎ ((p + o ≡ m) × (q ≡ 0))
 
 -- A FIGcharacter's row x, m wide, laid at `at`: its places p to p + o on the line's, the others alone; from lo up to hi all else as it was.
 pub record Laid (y : Mode) (p o m : ℕ) (x : ℕ → ℕ) (at lo hi : ℕ) (old new : List ℕ) : Type 0 where

@@ -9,13 +9,13 @@ use subchars::SubCharacter;
 ghost use mathlib.Core.Path.{_≡_};
 ghost use mathlib.Core.List.{_++_};
 ghost use Prim.Native.Nat.{ℕ, _+_, _*_, _-_, _<_, _≤_};
-ghost use lib.ListN.{length, take};
+ghost use lib.ListN.{length, getD, set, take};
 ghost use Rattle.ground.specs.Area.{values, zeros, padded};
 ghost use Rattle.ground.specs.Refusals.{refusal};
 ghost use Rattle.join.specs.Join.{leftOf, rightOf, overlap, rowsOf};
 ghost use Rattle.join.specs.Writing.{fromOn, Stored, RowAfterRow};
 ghost use Rattle.figure.specs.Line.{attached, blanked, ended, outputOf, outputBytes};
-ghost use Rattle.figure.specs.Scratch.{lineStart, scratchLine, rowsAt, RowsIn, met, Laid, LaidRows, Holds};
+ghost use Rattle.figure.specs.Scratch.{lineStart, scratchLine, rowsAt, RowsIn, met, StoredRows, Parted, LaidRows, Holds};
 
 // What drawing answers: the width of the line, or a refusal.
 pub enum DrawAnswer {
@@ -34,6 +34,17 @@ fn meet(mode: Mode, l: SubCharacter, x: SubCharacter) -> SubCharacter
     }
 }
 
+// Lays a sub-character on the one at a place. A blank leaves what lies there.
+fn meet_at(area: &mut [u8], at: usize, mode: Mode, x: SubCharacter)
+    requires { ⌜ at < length (now area) ⌝ }
+    ensures { λ _. ⌜ now (area .exit) ≡ set (now (area .entry)) at (met mode (getD (now (area .entry)) at 0) (x .0)) ⌝ }
+{
+    if x.0 != b' ' {
+        let z = meet(mode, SubCharacter(area[at]), x);
+        area[at] = z.0;
+    }
+}
+
 // Lays s[from..from + m] on area[at..].
 fn meet_row(area: &mut [u8], at: usize, mode: Mode, s: &[u8], from: usize, m: usize)
     requires { ⌜ (at + m ≤ length (now area)) × (from + m ≤ length (now s)) ⌝ }
@@ -41,34 +52,13 @@ fn meet_row(area: &mut [u8], at: usize, mode: Mode, s: &[u8], from: usize, m: us
 {
     let mut k: usize = 0;
     while k < m {
-        let z = meet(mode, SubCharacter(area[at + k]), SubCharacter(s[from + k]));
-        area[at + k] = z.0;
+        meet_at(area, at + k, mode, SubCharacter(s[from + k]));
         k += 1;
     }
 }
 
-// Lays one row of a FIGcharacter, m wide: its places p to p + o lie on the line's.
-fn lay_row(
-    area: &mut [u8],
-    at: usize,
-    mode: Mode,
-    s: &[u8],
-    from: usize,
-    p: usize,
-    o: usize,
-    m: usize,
-)
-    requires { ⌜ (p + o ≤ m) × (at + m ≤ length (now area)) × (from + m ≤ length (now s)) ⌝ }
-    ensures { λ _. ⌜ ((hi : ℕ) → Laid mode p o m (fromOn (now (s .entry)) from) at 0 hi (now (area .entry)) (now (area .exit))) ⌝ }
-{
-    let q = p + o;
-    join::copy_part(area, at, s, from, p);
-    meet_row(area, at + p, mode, s, from + p, o);
-    join::copy_part(area, at + q, s, from + q, m - q);
-}
-
-// The same for each of h rows.
-fn lay(
+// Lays the places p to p + o of each of h rows on the line's, from column `at` on.
+fn meet_rows(
     area: &mut [u8],
     at: usize,
     mode: Mode,
@@ -76,18 +66,52 @@ fn lay(
     starts: &[usize],
     p: usize,
     o: usize,
+    h: usize,
+)
+    requires { ⌜ (h ≤ 32) × (at + o ≤ 1000) × (32000 ≤ length (now area)) ⌝ }
+    requires { ⌜ RowsIn (now s) (now starts) (p + o) h ⌝ }
+    ensures { λ _. ⌜ StoredRows (λ (r j : ℕ). met mode (fromOn (now (area .entry)) (r * 1000 + at) j) (fromOn (now (s .entry)) (getD (now (starts .entry)) r 0 + p) j)) h at o (now (area .entry)) (now (area .exit)) ⌝ }
+{
+    let mut r: usize = 0;
+    while r < h {
+        meet_row(area, r * 1000 + at, mode, s, starts[r] + p, o);
+        r += 1;
+    }
+}
+
+// Copies the places q to q + n of each of h rows, to column `at` on.
+fn copy_rows(area: &mut [u8], at: usize, s: &[u8], starts: &[usize], q: usize, n: usize, h: usize)
+    requires { ⌜ (h ≤ 32) × (at + n ≤ 1000) × (32000 ≤ length (now area)) ⌝ }
+    requires { ⌜ RowsIn (now s) (now starts) (q + n) h ⌝ }
+    ensures { λ _. ⌜ StoredRows (λ (r j : ℕ). fromOn (now (s .entry)) (getD (now (starts .entry)) r 0 + q) j) h at n (now (area .entry)) (now (area .exit)) ⌝ }
+{
+    let mut r: usize = 0;
+    while r < h {
+        join::copy_part(area, r * 1000 + at, s, starts[r] + q, n);
+        r += 1;
+    }
+}
+
+// Lays the rows of a FIGcharacter, m wide: its places p to p + o lie on the line's, and those from q on beside it.
+fn lay(
+    area: &mut [u8],
+    at: usize,
+    mode: Mode,
+    s: &[u8],
+    starts: &[usize],
+    p: usize,
+    q: usize,
+    o: usize,
     m: usize,
     h: usize,
 )
     requires { ⌜ (h ≤ 32) × (p + o ≤ m) × (at + m ≤ 1000) × (32000 ≤ length (now area)) ⌝ }
     requires { ⌜ RowsIn (now s) (now starts) m h ⌝ }
+    requires { ⌜ Parted p q o m ⌝ }
     ensures { λ _. ⌜ LaidRows mode h at p o m (now (s .entry)) (now (starts .entry)) (now (area .entry)) (now (area .exit)) ⌝ }
 {
-    let mut r: usize = 0;
-    while r < h {
-        lay_row(area, r * 1000 + at, mode, s, starts[r], p, o, m);
-        r += 1;
-    }
+    meet_rows(area, at + p, mode, s, starts, p, o, h);
+    copy_rows(area, at + q, s, starts, q, m - o, h);
 }
 
 // The overlap of the line, n wide, and a FIGcharacter, m wide, whose rows start at the given places.
@@ -132,6 +156,17 @@ fn over(
     }
 }
 
+// One of two numbers, by the direction.
+fn by_direction(direction: Direction, rightward: usize, leftward: usize) -> usize
+    ensures { λ r. ⌜ (direction ≡ Direction.LeftToRight → r ≡ rightward) ⌝ }
+    ensures { λ r. ⌜ (direction ≡ Direction.RightToLeft → r ≡ leftward) ⌝ }
+{
+    match direction {
+        Direction::LeftToRight => rightward,
+        Direction::RightToLeft => leftward,
+    }
+}
+
 // Joins a FIGcharacter to the line, n wide, in place; answers the new width. A width over 1,000 leaves the area as it was.
 pub fn attach(
     area: &mut [u8],
@@ -154,10 +189,10 @@ pub fn attach(
         return w;
     }
     let direction = mode.direction;
-    match direction {
-        Direction::LeftToRight => lay(area, n - o, mode, s, starts, 0, o, m, h),
-        Direction::RightToLeft => lay(area, 1000 - w, mode, s, starts, m - o, o, m, h),
-    }
+    let at = by_direction(direction, n - o, 1000 - w);
+    let p = by_direction(direction, 0, m - o);
+    let q = by_direction(direction, o, 0);
+    lay(area, at, mode, s, starts, p, q, o, m, h);
     w
 }
 

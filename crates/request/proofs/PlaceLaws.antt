@@ -55,8 +55,8 @@ run-rest p (suc n) (x ∷ t) h = go (p x) h λ l. run-rest p n t l
     go true l more = omega (arith, more (omega arith))
     go false l more = absurd (omega arith)
 
+pub end-within : (s : List ℕ) (at w : ℕ) → at + w ≤ lineEnd s at → lineEnd s (at + w) ≡ lineEnd s at
+end-within s at w h = omega (arith, run-rest notEnd w (drop at s) (omega arith), ap (run notEnd) (drop-drop w at s))
+
 pub next-within : (s : List ℕ) (at w : ℕ) → at + w ≤ lineEnd s at → nextStart s (at + w) ≡ nextStart s at
-next-within s at w h =
-    let r = run-rest notEnd w (drop at s) (omega arith) in
-    let e : lineEnd s (at + w) ≡ lineEnd s at = omega (arith, r, ap (run notEnd) (drop-drop w at s)) in
-    ap (λ (k : ℕ). k + endLength (drop k s)) e
+next-within s at w h = ap (λ (k : ℕ). k + endLength (drop k s)) (end-within s at w h)

@@ -19,6 +19,7 @@ use Rattle.rows.specs.declared.RowStep.{RowStep}
 use Rattle.rows.specs.declared.RowStep.the-variants.{Width, BadRow}
 use Rattle.rows.specs.Rows.{row, goodLine, rowOf, hasWidth, lineCount}
 use Rattle.rows.proofs.BlockLaws.{row-prefix, row-le}
+use Rattle.rows.proofs.LineLaws.{width-less}
 use Rattle.rows.proofs.RowLaws.{rowsHave, AllRead}
 use Rattle.chars.specs.declared.Entry.{Entry}
 use Rattle.chars.proofs.EntryLaws.{Stands, here, further, EachStands, none, one}
@@ -33,6 +34,7 @@ use Rattle.request.proofs.PlaceLaws.{after-add}
 pub record RowStands (f : Format) (s : List ℕ) (w at : ℕ) : Type 0 where
   pub inside : at < length s
   pub width : rowOf f (textAt s at) ≡ Width w
+  pub marked : at + w < lineEnd s at
   pub ends : at + w ≤ lineEnd s at
   pub fits : at + w ≤ length s
   pub bytes : take w (drop at s) ≡ row (textAt s at)
@@ -56,6 +58,7 @@ on-line f s w at h e =
     record {
       inside = h;
       width = e;
+      marked = omega (arith, width-less f (textAt s at) w e, l);
       ends = omega (arith, b);
       fits = omega (arith, b, k);
       bytes = sym (take-take w n (drop at s) b) ∙ ap (λ (j : ℕ). take j (textAt s at)) v ∙ row-prefix (textAt s at);

@@ -95,3 +95,14 @@ row-le (x ∷ xs) = go (all (eqb x) xs) (row-le xs)
     go : (b : Bool) → length (row xs) ≤ length xs → length (cond b [] (x ∷ row xs)) ≤ suc (length xs)
     go true h = omega arith
     go false h = omega arith
+
+-- It is shorter than its line: an endmark stands behind it.
+pub row-less : (t : List ℕ) → 0 < length t → length (row t) < length t
+unfolding row all
+row-less [] h = absurd (omega arith)
+row-less (x ∷ []) h = omega arith
+row-less (x ∷ y ∷ t) h = go (all (eqb x) (y ∷ t)) (row-less (y ∷ t) (omega arith))
+  where
+    go : (b : Bool) → length (row (y ∷ t)) < suc (length t) → length (cond b [] (x ∷ row (y ∷ t))) < suc (suc (length t))
+    go true l = omega arith
+    go false l = omega arith

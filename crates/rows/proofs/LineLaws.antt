@@ -8,14 +8,14 @@ use Prim.Native.Nat.{ℕ, zero, suc, _≤_, _<_}
 use native.Mathlib.Omega.{arith}
 use lib.Dec.{ltb, leb}
 use lib.ListN.{length, take}
-use borrow.Author.Tests.{lt-ltb, le-ltb, le-leb, lt-leb, ltb-false, leb-false, eqb-false, ne-eqb}
+use borrow.Author.Tests.{lt-ltb, le-ltb, le-leb, lt-leb, ltb-true, ltb-false, leb-false, eqb-false, ne-eqb}
 use Rattle.ground.specs.Runs.{all}
 use Rattle.ground.proofs.Tests.{and-left-false, and-right-false, clash}
 use Rattle.rows.specs.declared.Format.{Format}
 use Rattle.rows.specs.declared.RowStep.{RowStep}
 use Rattle.rows.specs.declared.RowStep.the-variants.{Width, BadRow}
 use Rattle.rows.specs.Rows.{row, legal, goodLine, rowOf, hasWidth}
-use Rattle.rows.proofs.BlockLaws.{row-prefix, row-le}
+use Rattle.rows.proofs.BlockLaws.{row-prefix, row-le, row-less}
 
 -- The reasons of refusal 6 that a line has by itself: "the line is empty, is longer than Max_Length with its marks, .. or its row holds a byte
 -- under 32 that is not the hardblank".
@@ -72,6 +72,17 @@ module _ (f : Format) (t : List ℕ) where
         some : (n : ℕ) → (n ≡ 0 → ⊥) → 0 < n
         some zero q = absurd (q refl)
         some (suc n) q = omega arith
+
+-- A row is shorter than its line.
+pub width-less : (f : Format) (t : List ℕ) (w : ℕ) → rowOf f t ≡ Width w → w < length t
+unfolding rowOf goodLine
+width-less f t w e = go (ltb 0 (length t)) refl (leb (length t) (f .«max_length»)) (all (legal (f .hardblank .0)) (row t)) e
+  where
+    go : (a : Bool) → ltb 0 (length t) ≡ a → (b c : Bool) → cond (a && b && c) (Width (length (row t))) BadRow ≡ Width w → w < length t
+    go true p true true x = let q : length (row t) ≡ w = cc in omega (arith, row-less t (ltb-true 0 (length t) p))
+    go true p true false x = clash (cc)
+    go true p false c x = clash (cc)
+    go false p b c x = clash (cc)
 
 -- The reasons of refusal 6 for a row of a character whose first row has width w: these, and "its row differs in width from the character's first row".
 pub data BadRowLine (f : Format) (w : ℕ) (t : List ℕ) : Type 0 where

@@ -5,10 +5,12 @@ use lines::Cursor;
 use lines::LineStep;
 use subchars::SubCharacter;
 ghost use mathlib.Core.Path.{_≡_};
+ghost use mathlib.Core.Bool.{true};
+ghost use lib.Dec.{leb};
 ghost use lib.ListN.{length};
-ghost use Rattle.ground.specs.Runs.{all};
+ghost use Rattle.ground.specs.Runs.{run, all};
 ghost use Rattle.rows.specs.Rows.{row, legal, rowOf};
-ghost use Rattle.rows.specs.Steps.{badRowAt, rowAt, sameAt, rowsAt, charAt};
+ghost use Rattle.rows.specs.Steps.{badRowAt, rowThere, rowAt, sameAt, rowsAt, charAt};
 
 // What a font's header says of its row lines.
 pub struct Format {
@@ -77,8 +79,9 @@ fn are_legal(t: &[u8], hardblank: SubCharacter) -> bool
     true
 }
 
-// What a row line holds. Nothing else knows how a row is written.
-pub fn row_of(f: Format, t: &[u8]) -> RowStep
+// What a row line holds, where it is known whether all its bytes are 32 or above. Nothing else knows how a row is written.
+fn row_where(f: Format, t: &[u8], plain: bool) -> RowStep
+    requires { ⌜ (plain ≡ true → all (leb 32) (now t) ≡ true) ⌝ }
     ensures { λ r. ⌜ r ≡ rowOf f (now (t .entry)) ⌝ }
 {
     if t.len() == 0 {
@@ -88,11 +91,21 @@ pub fn row_of(f: Format, t: &[u8]) -> RowStep
         return RowStep::BadRow;
     }
     let width = row_width(t);
+    if plain {
+        return RowStep::Width(width);
+    }
     let hardblank = f.hardblank;
     if are_legal(&t[..width], hardblank) {
         return RowStep::Width(width);
     }
     RowStep::BadRow
+}
+
+// What a row line holds.
+pub fn row_of(f: Format, t: &[u8]) -> RowStep
+    ensures { λ r. ⌜ r ≡ rowOf f (now (t .entry)) ⌝ }
+{
+    row_where(f, t, false)
 }
 
 // A refusal of the line that starts at a place.
@@ -105,24 +118,61 @@ fn bad_row(at: usize) -> RowAt
     })
 }
 
-// The row line at a place of a font.
-pub fn row_at(f: Format, s: &[u8], at: usize) -> RowAt
+// The row that a line at a place holds.
+fn row_there(r: RowStep, at: usize, next: usize) -> RowAt
+    ensures { λ x. ⌜ x ≡ rowThere r at next ⌝ }
+{
+    match r {
+        RowStep::Width(w) => RowAt::Row { width: w, next },
+        RowStep::BadRow => bad_row(at),
+    }
+}
+
+// The row line at a place of a font, whatever its bytes.
+fn any_row_at(f: Format, s: &[u8], at: usize) -> RowAt
     ensures { λ r. ⌜ r ≡ rowAt f (now (s .entry)) at ⌝ }
 {
     let cursor = Cursor { at };
     match cursor.next(s) {
         LineStep::Line { start, end, next } => {
             let n = next.at;
-            match row_of(f, &s[start..end]) {
-                RowStep::Width(w) => RowAt::Row { width: w, next: n },
-                RowStep::BadRow => bad_row(at),
-            }
+            row_there(row_of(f, &s[start..end]), at, n)
         }
         LineStep::NoLine => RowAt::NoRow(Refusal {
             number: refusals::MISSING_LINE,
             place: s.len(),
         }),
     }
+}
+
+// How many bytes at the start are 32 or above. No line end is among them, and each is legal in a row.
+fn plain_length(t: &[u8]) -> usize
+    ensures { λ n. ⌜ n ≡ run (leb 32) (now (t .entry)) ⌝ }
+{
+    let mut n: usize = 0;
+    while n < t.len() {
+        if t[n] < 32 {
+            return n;
+        }
+        n += 1;
+    }
+    n
+}
+
+// The row line at a place of a font. Most are bytes of 32 or above and an LF: one look at each byte finds the line's end and that all are legal.
+pub fn row_at(f: Format, s: &[u8], at: usize) -> RowAt
+    ensures { λ r. ⌜ r ≡ rowAt f (now (s .entry)) at ⌝ }
+{
+    if at < s.len() {
+        let n = plain_length(&s[at..]);
+        let end = at + n;
+        if end < s.len() {
+            if s[end] == b'\n' {
+                return row_there(row_where(f, &s[at..end], true), at, end + 1);
+            }
+        }
+    }
+    any_row_at(f, s, at)
 }
 
 // The same, where it has the given width.

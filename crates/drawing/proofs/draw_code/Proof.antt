@@ -1,7 +1,8 @@
 -- `drawing::draw_code` meets its contract.
 -- Assumes nothing.
 use mathlib.Core.Path.{sym, _∙_}
-use Rattle.drawing.proofs.CharacterLaws.{few-rows, standing, narrow, rows-in, unmoved, reached}
+use native.Mathlib.Omega.{arith}
+use Rattle.drawing.proofs.CharacterLaws.{few-rows, some-rows, standing, marked, narrow, rows-in, unmoved, reached}
 use borrow.Author.Needs.{needs}
 use Rattle.drawing.proofs.draw_code.Statement.{statement}
 use Rattle.drawing.proofs.draw_code.Tie as tie
@@ -12,23 +13,19 @@ find-known-requires c κs = search needs
 enum-known-entry : tie.Need-enum-known-entry
 enum-known-entry c = search needs
 
-slice-aggregate-find-rows : tie.Need-slice-aggregate-find-rows
-slice-aggregate-find-rows c = search needs
-
 find-rows-requires : tie.Need-find-rows-requires
 find-rows-requires c κs =
-    let f = c .before .before .before .before .before .before .before .before .before .before .before .pre .0 in
-    (few-rows _ _ _ _ _ _ _ f, standing _ _ _ _ _ _ _ f (c .before .before .before .before .before .before .before .before .before .before .before .args .code) _ (sym (c .before .before .entry .given .1) ∙ c .before .before .before .before .find-known .ensures (f .characters) (f .count) (f .lists)))
-
-slice-aggregate-attach : tie.Need-slice-aggregate-attach
-slice-aggregate-attach c = search needs
+    let f = c .before .before .before .before .before .before .before .before .before .before .before .before .pre .0 in
+    let x = c .before .before .before .before .before .before .before .before .before .before .before .before .args .code in
+    let u = sym (c .before .before .entry .given .1) ∙ c .before .before .before .before .find-known .ensures (f .characters) (f .count) (f .lists) in
+    ((some-rows _ _ _ _ _ _ _ f, omega (arith, few-rows _ _ _ _ _ _ _ f, c .before .before .before .before .before .before .before .before .before .before .before .before .pre .1 .1 .0 .2)), (standing _ _ _ _ _ _ _ f x _ u, marked _ _ _ _ _ _ _ f x _ u))
 
 attach-requires : tie.Need-attach-requires
 attach-requires c κs =
-    let f = c .before .before .before .before .before .before .before .before .before .before .before .before .before .before .before .pre .0 in
-    let u = sym (c .before .before .before .before .before .before .entry .given .1) ∙ c .before .before .before .before .before .before .before .before .find-known .ensures (f .characters) (f .count) (f .lists) in (
-      (few-rows _ _ _ _ _ _ _ f, c .before .before .before .before .before .before .before .before .before .before .before .before .before .before .before .pre .1 .1 .0 .0, narrow _ _ _ _ _ _ _ f (c .before .before .before .before .before .before .before .before .before .before .before .before .before .before .before .args .code) _ u, c .before .before .before .before .before .before .before .before .before .before .before .before .before .before .before .pre .1 .1 .0 .1),
-      (c .before .before .before .before .before .before .before .before .before .before .before .before .before .before .before .pre .1 .1 .1, rows-in _ _ _ _ _ _ _ f (c .before .before .before .before .before .before .before .before .before .before .before .before .before .before .before .args .code) _ u _ (c .before .before .before .find-rows .ensures)),
+    let f = c .before .before .before .before .before .before .before .before .before .before .before .before .before .before .before .before .before .pre .0 in
+    let u = sym (c .before .before .before .before .before .before .before .entry .given .1) ∙ c .before .before .before .before .before .before .before .before .before .find-known .ensures (f .characters) (f .count) (f .lists) in (
+      (few-rows _ _ _ _ _ _ _ f, c .before .before .before .before .before .before .before .before .before .before .before .before .before .before .before .before .before .pre .1 .1 .0 .0, narrow _ _ _ _ _ _ _ f (c .before .before .before .before .before .before .before .before .before .before .before .before .before .before .before .before .before .args .code) _ u, c .before .before .before .before .before .before .before .before .before .before .before .before .before .before .before .before .before .pre .1 .1 .0 .1),
+      (c .before .before .before .before .before .before .before .before .before .before .before .before .before .before .before .before .before .pre .1 .1 .1, rows-in _ _ _ _ _ _ _ f (c .before .before .before .before .before .before .before .before .before .before .before .before .before .before .before .before .before .args .code) _ u _ (c .before .before .before .before .find-rows .ensures)),
     )
 
 enum-told : tie.Need-enum-told
@@ -37,16 +34,19 @@ enum-told c = search needs
 same-length : tie.Need-same-length
 same-length c = search needs
 
+same-length-2 : tie.Need-same-length-2
+same-length-2 c = search needs
+
 returns : tie.Need-returns
 returns c =
-    let f = c .before .before .before .before .before .before .before .before .before .before .before .before .before .before .before .before .before .before .pre .0 in
-    let u = sym (c .before .before .before .before .before .before .before .before .before .entry .given .1) ∙ c .before .before .before .before .before .before .before .before .before .before .before .find-known .ensures (f .characters) (f .count) (f .lists) in
-    reached _ _ _ _ _ _ _ f (c .before .before .before .before .before .before .before .before .before .before .before .before .before .before .before .before .before .before .args .code) _ u _ (c .before .before .before .before .before .before .find-rows .ensures) (c .before .before .before .before .before .before .before .before .before .before .before .before .before .before .before .before .before .before .args .n) _ (c .before .before .before .before .before .before .before .before .before .before .before .before .before .before .before .before .before .before .args .area .now) (c .before .before .attach .last .0) _ (c .before .before .before .before .before .before .before .before .before .before .before .before .before .before .before .before .before .before .pre .1 .0) (c .before .before .attach .ensures)
+    let f = c .before .before .before .before .before .before .before .before .before .before .before .before .before .before .before .before .before .before .before .before .pre .0 in
+    let u = sym (c .before .before .before .before .before .before .before .before .before .before .entry .given .1) ∙ c .before .before .before .before .before .before .before .before .before .before .before .before .find-known .ensures (f .characters) (f .count) (f .lists) in
+    reached _ _ _ _ _ _ _ f (c .before .before .before .before .before .before .before .before .before .before .before .before .before .before .before .before .before .before .before .before .args .code) _ u _ (c .before .before .before .before .before .before .before .find-rows .ensures) (c .before .before .before .before .before .before .before .before .before .before .before .before .before .before .before .before .before .before .before .before .args .n) _ (c .before .before .before .before .before .before .before .before .before .before .before .before .before .before .before .before .before .before .before .before .args .area .now) (c .before .before .attach .last .0) _ (c .before .before .before .before .before .before .before .before .before .before .before .before .before .before .before .before .before .before .before .before .pre .1 .0) (c .before .before .attach .ensures)
 
 returns-2 : tie.Need-returns-2
 returns-2 c =
-    let f = c .before .before .before .before .before .before .before .before .before .pre .0 in
-    unmoved _ _ _ _ _ _ _ f (c .before .before .before .before .before .before .before .before .before .args .code) (sym (c .enum-told .given .1) ∙ c .before .before .find-known .ensures (f .characters) (f .count) (f .lists)) (c .before .before .before .before .before .before .before .before .before .args .n) _ (c .before .before .before .before .before .before .before .before .before .pre .1 .1 .0 .0)
+    let f = c .before .before .before .before .before .before .before .before .before .before .pre .0 in
+    unmoved _ _ _ _ _ _ _ f (c .before .before .before .before .before .before .before .before .before .before .args .code) (sym (c .enum-told .given .1) ∙ c .before .before .find-known .ensures (f .characters) (f .count) (f .lists)) (c .before .before .before .before .before .before .before .before .before .before .args .n) _ (c .before .before .before .before .before .before .before .before .before .before .pre .1 .1 .0 .0)
 
 pub draw-code-spec : {M : Type 1} → statement M
 draw-code-spec =
@@ -54,11 +54,10 @@ draw-code-spec =
     (tie.spec
     find-known-requires
     enum-known-entry
-    slice-aggregate-find-rows
     find-rows-requires
-    slice-aggregate-attach
     attach-requires
     enum-told
     same-length
+    same-length-2
     returns
     returns-2)

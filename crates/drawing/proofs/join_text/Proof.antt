@@ -17,11 +17,11 @@ use Rattle.drawing.proofs.join_text.Statement.{statement}
 use Rattle.drawing.proofs.join_text.Tie as tie
 
 abbrev Inv-loop : tie.InvT-loop
-Inv-loop area₀ text font header mode count codes starts widths places commands stages firsts lasts news rows n₀ i₀ area n i =
-    (n ≤ 1000) × (length area ≡ length area₀) × ((control : List ℕ) (held : ControlHeld control commands stages firsts lasts news) → Toward font header (entriesOf (reading font)) (held .commands) (held .count) text area n i)
+Inv-loop area₀ text font header mode count codes starts widths places commands stages firsts lasts news rows found₀ n₀ i₀ area found n i =
+    (n ≤ 1000) × (length area ≡ length area₀) × (length found ≡ 32) × ((control : List ℕ) (held : ControlHeld control commands stages firsts lasts news) → Toward font header (entriesOf (reading font)) (held .commands) (held .count) text area n i)
 
 abbrev μ-loop : tie.MeasureT-loop
-μ-loop area₀ text font header mode count codes starts widths places commands stages firsts lasts news rows n₀ i₀ area n i =
+μ-loop area₀ text font header mode count codes starts widths places commands stages firsts lasts news rows found₀ n₀ i₀ area found n i =
     length text - i
 
 row-starts-requires : tie.Need-row-starts-requires Inv-loop μ-loop
@@ -30,7 +30,7 @@ row-starts-requires c κs = (few-rows _ _ _ _ _ _ _ (c .before .before .before .
 loop-holds : tie.Need-loop-holds Inv-loop μ-loop
 loop-holds c =
     let a = c .before .before .before .before .before .before .before .before .args in
-    (omega arith, refl, λ control held. toward-first (a .font .now) (a .header) (entriesOf (reading (a .font .now))) (held .commands) (held .count) (a .text .now) (a .area .now))
+    (omega arith, refl, refl, λ control held. toward-first (a .font .now) (a .header) (entriesOf (reading (a .font .now))) (held .commands) (held .count) (a .text .now) (a .area .now))
 
 shared-slice-read-code-of : tie.Need-shared-slice-read-code-of Inv-loop μ-loop
 shared-slice-read-code-of c = c .before .loop-test .taken
@@ -44,40 +44,44 @@ map-by-requires c κs = usable _ _ _ _ _ _ (c .before .before .before .before .b
 slice-aggregate-draw-code : tie.Need-slice-aggregate-draw-code Inv-loop μ-loop
 slice-aggregate-draw-code c = search needs
 
+slice-aggregate-draw-code-2 : tie.Need-slice-aggregate-draw-code-2 Inv-loop μ-loop
+slice-aggregate-draw-code-2 c = search needs
+
 draw-code-requires : tie.Need-draw-code-requires Inv-loop μ-loop
 draw-code-requires c κs =
-    let p = c .before .before .before .before .before .before .before .before .before .before .before .before .before .before .before .pre in
-    let l = c .before .before .before .before .before .before .loop in
-    (p .0, (p .1 .1 .0, ((l .inv .0, omega (arith, p .1 .1 .1, l .inv .1)), c .before .before .before .before .before .before .before .row-starts .ensures)))
+    let p = c .before .before .before .before .before .before .before .before .before .before .before .before .before .before .before .before .pre in
+    let l = c .before .before .before .before .before .before .before .loop in
+    (p .0, (p .1 .1 .0, ((l .inv .0, omega (arith, p .1 .1 .1, l .inv .1), omega (arith, l .inv .2)), c .before .before .before .before .before .before .before .before .row-starts .ensures)))
 
 same-length : tie.Need-same-length Inv-loop μ-loop
-same-length c = omega (arith, c .before .before .before .draw-code .kept .0, c .before .before .before .before .before .before .before .before .before .before .loop .inv .1)
+same-length c = omega (arith, c .before .before .before .before .draw-code .kept .0, c .before .before .before .before .before .before .before .before .before .before .before .before .loop .inv .1)
 
 returns : tie.Need-returns Inv-loop μ-loop
 returns c =
-    let a = c .before .before .before .before .before .before .before .before .before .before .before .before .before .before .before .before .before .before .before .args in
+    let a = c .before .before .before .before .before .before .before .before .before .before .before .before .before .before .before .before .before .before .before .before .before .args in
     let s = a .font .now in
-    let l = c .before .before .before .before .before .before .before .before .before .before .loop in
+    let l = c .before .before .before .before .before .before .before .before .before .before .before .before .loop in
     λ control held.
-    let is = mapped control (a .commands) (a .stages .now) (a .firsts .now) (a .lasts .now) (a .news .now) held _ _ (c .before .before .before .before .before .before .map-by .ensures) ∙ ap (mapStages (held .commands) 0 (held .count)) (c .before .before .before .before .before .before .before .code-of .ensures) in
-    toward-beyond s (a .header) (entriesOf (reading s)) (held .commands) (held .count) (a .text .now) (l .area) (l .n) (l .i) (l .inv .2 control held) (c .before .before .before .before .before .before .before .before .before .loop-test .taken) _ is (c .before .before .before .draw-code .last .0) _ (c .before .before .before .draw-code .ensures) (c .if1 .taken)
+    let is = mapped control (a .commands) (a .stages .now) (a .firsts .now) (a .lasts .now) (a .news .now) held _ _ (c .before .before .before .before .before .before .before .before .map-by .ensures) ∙ ap (mapStages (held .commands) 0 (held .count)) (c .before .before .before .before .before .before .before .before .before .code-of .ensures) in
+    toward-beyond s (a .header) (entriesOf (reading s)) (held .commands) (held .count) (a .text .now) (l .area) (l .n) (l .i) (l .inv .3 control held) (c .before .before .before .before .before .before .before .before .before .before .before .loop-test .taken) _ is (c .before .before .before .before .draw-code .last .0) _ (c .before .before .before .before .draw-code .ensures) (c .if1 .taken)
 
 add-i : tie.Need-add-i Inv-loop μ-loop
-add-i c = omega (arith, c .before .before .before .before .before .before .before .before .before .loop-test .taken, c .before .before .before .before .before .before .before .before .before .before .before .before .before .before .before .before .before .before .before .good .1 .0)
+add-i c = omega (arith, c .before .before .before .before .before .before .before .before .before .before .before .loop-test .taken, c .before .before .before .before .before .before .before .before .before .before .before .before .before .before .before .before .before .before .before .before .before .good .1 .0)
 
 loop-less : tie.Need-loop-less Inv-loop μ-loop
-loop-less c = omega (arith, c .before .before .before .before .before .before .before .before .before .loop-test .taken)
+loop-less c = omega (arith, c .before .before .before .before .before .before .before .before .before .before .before .loop-test .taken)
 
 loop-again : tie.Need-loop-again Inv-loop μ-loop
 loop-again c =
-    let a = c .before .before .before .before .before .before .before .before .before .before .before .before .before .before .before .before .before .before .before .args in
+    let a = c .before .before .before .before .before .before .before .before .before .before .before .before .before .before .before .before .before .before .before .before .before .args in
     let s = a .font .now in
-    let l = c .before .before .before .before .before .before .before .before .before .before .loop in (
+    let l = c .before .before .before .before .before .before .before .before .before .before .before .before .loop in (
       c .if1 .left,
-      omega (arith, c .before .before .before .draw-code .kept .0, l .inv .1),
+      omega (arith, c .before .before .before .before .draw-code .kept .0, l .inv .1),
+      omega (arith, c .before .before .before .before .draw-code .kept .1, l .inv .2),
       λ control held.
-          let is = mapped control (a .commands) (a .stages .now) (a .firsts .now) (a .lasts .now) (a .news .now) held _ _ (c .before .before .before .before .before .before .map-by .ensures) ∙ ap (mapStages (held .commands) 0 (held .count)) (c .before .before .before .before .before .before .before .code-of .ensures) in
-          toward-next s (a .header) (entriesOf (reading s)) (held .commands) (held .count) (a .text .now) (l .area) (l .n) (l .i) (l .inv .2 control held) (c .before .before .before .before .before .before .before .before .before .loop-test .taken) _ is (c .before .before .before .draw-code .last .0) _ (c .before .before .before .draw-code .ensures) (c .if1 .left),
+          let is = mapped control (a .commands) (a .stages .now) (a .firsts .now) (a .lasts .now) (a .news .now) held _ _ (c .before .before .before .before .before .before .before .before .map-by .ensures) ∙ ap (mapStages (held .commands) 0 (held .count)) (c .before .before .before .before .before .before .before .before .before .code-of .ensures) in
+          toward-next s (a .header) (entriesOf (reading s)) (held .commands) (held .count) (a .text .now) (l .area) (l .n) (l .i) (l .inv .3 control held) (c .before .before .before .before .before .before .before .before .before .before .before .loop-test .taken) _ is (c .before .before .before .before .draw-code .last .0) _ (c .before .before .before .before .draw-code .ensures) (c .if1 .left),
     )
 
 same-length-2 : tie.Need-same-length-2 Inv-loop μ-loop
@@ -88,7 +92,7 @@ returns-2 c =
     let a = c .before .before .before .before .before .before .before .before .before .before .args in
     let s = a .font .now in
     let l = c .before .loop in
-    λ control held. toward-end s (a .header) (entriesOf (reading s)) (held .commands) (held .count) (a .text .now) (l .area) (l .n) (l .i) (l .inv .2 control held) (c .loop-test .left) (l .inv .0)
+    λ control held. toward-end s (a .header) (entriesOf (reading s)) (held .commands) (held .count) (a .text .now) (l .area) (l .n) (l .i) (l .inv .3 control held) (c .loop-test .left) (l .inv .0)
 
 pub join-text-spec : {M : Type 1} → statement M
 join-text-spec =
@@ -102,6 +106,7 @@ join-text-spec =
     code-of-requires
     map-by-requires
     slice-aggregate-draw-code
+    slice-aggregate-draw-code-2
     draw-code-requires
     same-length
     returns

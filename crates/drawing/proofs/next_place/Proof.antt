@@ -1,8 +1,10 @@
 -- `drawing::next_place` meets its contract.
 -- Assumes nothing.
 use mathlib.Core.Path.{sym, _∙_}
+use native.Mathlib.Omega.{arith}
 use Rattle.lines.proofs.LineLaws.{line-found, line-missed}
 use Rattle.request.proofs.PlaceLaws.{next-stuck}
+use Rattle.drawing.proofs.MarkLaws.{byte-within}
 use borrow.Author.Needs.{needs}
 use Rattle.drawing.proofs.next_place.Statement.{statement}
 use Rattle.drawing.proofs.next_place.Tie as tie
@@ -11,7 +13,7 @@ one-mark-requires : tie.Need-one-mark-requires
 one-mark-requires c κs = search needs
 
 add-result : tie.Need-add-result
-add-result c = search needs
+add-result c = omega (arith, byte-within (c .before .before .before .args .font .now) (c .before .before .before .args .at) (c .before .before .before .pre))
 
 returns : tie.Need-returns
 returns c = sym (c .before .one-mark .ensures (c .if1 .taken))

@@ -1,77 +1,94 @@
--- `rows::row_at` meets its contract: the row of the line that the cursor finds.
+-- `rows::row_at` meets its contract: a line of bytes that are 32 or above, with an LF behind it, or any other.
 -- Assumes nothing.
-use mathlib.Core.Path.{sym, ap, _∙_}
+use mathlib.Core.Path.{_≡_, ap, _∙_}
+use Prim.Native.Nat.{ℕ, _+_, _-_}
+use native.Mathlib.Omega.{arith}
 use borrow.Author.Needs.{needs}
-use Rattle.lines.proofs.LineLaws.{LineFound, line-found, line-missed, line-order, line-within}
-use Rattle.rows.specs.declared.RowStep.{RowStep}
-use Rattle.rows.specs.declared.RowAt.{RowAt}
-use Rattle.rows.specs.Steps.{rowThere}
-use Rattle.rows.proofs.RowLaws.{row-none, row-line}
+use lib.Dec.{leb}
+use lib.ListN.{drop, take, length-drop}
+use Rattle.ground.specs.Runs.{run, all}
+use Rattle.ground.proofs.Runs.{rest-is, run-le}
+use Rattle.rows.proofs.PlainLaws.{run-passed, plain-found}
+use Rattle.rows.proofs.RowLaws.{row-line}
 use Rattle.rows.proofs.row_at.Statement.{statement}
 use Rattle.rows.proofs.row_at.Tie as tie
 
-found : (c : tie.After-known-told) → LineFound (c .before .before .before .before .before .args .s .now) (c .before .before .before .before .before .args .at) (c .before .start .given .0 .0) (c .before .start .given .0 .1 .0) (c .before .start .given .0 .1 .1 .0)
-found c = line-found (c .before .before .before .before .before .args .s .now) (c .before .before .before .before .before .args .at) _ _ _ (sym (c .before .start .given .1) ∙ c .before .before .before .next .ensures)
+-- how many bytes from the place on are 32 or above
+counted : (c : tie.After-plain-length) → c .plain-length .result ≡ run (leb 32) (drop (c .before .before .before .before .args .at) (c .before .before .before .before .args .s .now))
+counted c = c .plain-length .ensures ∙ ap (run (leb 32)) (rest-is (c .before .before .before .before .args .s .now) (c .before .before .before .before .args .at))
 
-next-requires : tie.Need-next-requires
-next-requires c κs = search needs
+sub-plain-length : tie.Need-sub-plain-length
+sub-plain-length c = search needs
 
-enum-known-start : tie.Need-enum-known-start
-enum-known-start c = search needs
+part-plain-length-start : tie.Need-part-plain-length-start
+part-plain-length-start c = search needs
 
-sub-row-of : tie.Need-sub-row-of
-sub-row-of c = line-order _ _ _ _ _ (found c)
+part-plain-length-end : tie.Need-part-plain-length-end
+part-plain-length-end c = search needs
 
-part-row-of-start : tie.Need-part-row-of-start
-part-row-of-start c = line-order _ _ _ _ _ (found c)
+plain-length-requires : tie.Need-plain-length-requires
+plain-length-requires c κs = search needs
 
-part-row-of-end : tie.Need-part-row-of-end
-part-row-of-end c = line-within _ _ _ _ _ (found c)
+add-end : tie.Need-add-end
+add-end c =
+    let a = c .before .before .before .before .args in
+    omega (arith, counted c, run-le (leb 32) (drop (a .at) (a .s .now)), length-drop (a .at) (a .s .now))
 
-row-of-requires : tie.Need-row-of-requires
-row-of-requires c κs = search needs
+shared-slice-read-if3 : tie.Need-shared-slice-read-if3
+shared-slice-read-if3 c = search needs
 
-enum-known-w : tie.Need-enum-known-w
-enum-known-w c = search needs
+sub-row-where : tie.Need-sub-row-where
+sub-row-where c = search needs
 
-enum-told : tie.Need-enum-told
-enum-told c = search needs
+part-row-where-start : tie.Need-part-row-where-start
+part-row-where-start c = search needs
 
-bad-row-requires : tie.Need-bad-row-requires
-bad-row-requires c κs = search needs
+part-row-where-end : tie.Need-part-row-where-end
+part-row-where-end c = search needs
 
-enum-told-2 : tie.Need-enum-told-2
-enum-told-2 c = search needs
+row-where-requires : tie.Need-row-where-requires
+row-where-requires c κs =
+    let p = c .before .before .before .before in
+    let a = p .before .before .before .before .args in
+    let t = drop (a .at) (a .s .now) in
+    let e : a .at + p .plain-length .result - a .at ≡ run (leb 32) t = omega (arith, counted p) in
+    λ u. ap (λ (k : ℕ). all (leb 32) (take k t)) e ∙ run-passed (leb 32) t
+
+add-row-there : tie.Need-add-row-there
+add-row-there c = search needs
+
+row-there-requires : tie.Need-row-there-requires
+row-there-requires c κs = search needs
 
 returns : tie.Need-returns
 returns c =
-    let l = c .before .before .before .before .before in
-    let there : RowStep → RowAt = λ r. rowThere r (l .before .before .before .before .before .args .at) (l .before .start .given .0 .1 .1 .0 .at) in
-    sym (ap there (c .before .w .given .1)) ∙ row-line _ _ _ _ _ _ (found l) (c .before .before .before .row-of .result) (c .before .before .before .row-of .ensures)
+    let p = c .before .before .before .before .before .before in
+    let a = p .before .before .before .before .args in
+    let l = plain-found (a .s .now) (a .at) (p .plain-length .result) (counted p) (c .before .before .before .before .before .if2 .taken) (c .before .before .before .if3 .taken) in
+    c .row-there .ensures ∙ row-line (a .f) (a .s .now) (a .at) (a .at) _ _ l (c .before .row-where .result) (c .before .row-where .ensures)
+
+any-row-at-requires : tie.Need-any-row-at-requires
+any-row-at-requires c κs = search needs
 
 returns-2 : tie.Need-returns-2
-returns-2 c =
-    let l = c .before .before .before .before .before in
-    let there : RowStep → RowAt = λ r. rowThere r (l .before .before .before .before .before .args .at) (l .before .start .given .0 .1 .1 .0 .at) in
-    c .bad-row .ensures ∙ sym (ap there (c .before .enum-told .given .1)) ∙ row-line _ _ _ _ _ _ (found l) (c .before .before .before .row-of .result) (c .before .before .before .row-of .ensures)
-
-returns-3 : tie.Need-returns-3
-returns-3 c = row-none _ _ _ (line-missed _ _ (sym (c .enum-told2 .given .1) ∙ c .before .before .next .ensures))
+returns-2 c = search needs
 
 pub row-at-spec : {M : Type 1} → statement M
 row-at-spec =
     tie.close
     (tie.spec
-    next-requires
-    enum-known-start
-    sub-row-of
-    part-row-of-start
-    part-row-of-end
-    row-of-requires
-    enum-known-w
-    enum-told
-    bad-row-requires
-    enum-told-2
+    sub-plain-length
+    part-plain-length-start
+    part-plain-length-end
+    plain-length-requires
+    add-end
+    shared-slice-read-if3
+    sub-row-where
+    part-row-where-start
+    part-row-where-end
+    row-where-requires
+    add-row-there
+    row-there-requires
     returns
-    returns-2
-    returns-3)
+    any-row-at-requires
+    returns-2)
