@@ -3,12 +3,13 @@ use ground::refusals;
 use ground::refusals::Refusal;
 use lines::Cursor;
 use lines::LineStep;
+use lines::PlainStep;
 use subchars::SubCharacter;
 ghost use mathlib.Core.Path.{_≡_};
 ghost use mathlib.Core.Bool.{true};
-ghost use lib.Dec.{leb};
 ghost use lib.ListN.{length};
-ghost use Rattle.ground.specs.Runs.{run, all};
+ghost use Rattle.ground.specs.Runs.{all};
+ghost use Rattle.lines.specs.Plain.{isPlain};
 ghost use Rattle.rows.specs.Rows.{row, legal, rowOf};
 ghost use Rattle.rows.specs.Steps.{badRowAt, rowThere, rowAt, sameAt, rowsAt, charAt};
 
@@ -79,9 +80,9 @@ fn are_legal(t: &[u8], hardblank: SubCharacter) -> bool
     true
 }
 
-// What a row line holds, where it is known whether all its bytes are 32 or above. Nothing else knows how a row is written.
+// What a row line holds, where it may be known that all its bytes are 32 or above. Nothing else knows how a row is written.
 fn row_where(f: Format, t: &[u8], plain: bool) -> RowStep
-    requires { ⌜ (plain ≡ true → all (leb 32) (now t) ≡ true) ⌝ }
+    requires { ⌜ (plain ≡ true → all isPlain (now t) ≡ true) ⌝ }
     ensures { λ r. ⌜ r ≡ rowOf f (now (t .entry)) ⌝ }
 {
     if t.len() == 0 {
@@ -145,34 +146,18 @@ fn any_row_at(f: Format, s: &[u8], at: usize) -> RowAt
     }
 }
 
-// How many bytes at the start are 32 or above. No line end is among them, and each is legal in a row.
-fn plain_length(t: &[u8]) -> usize
-    ensures { λ n. ⌜ n ≡ run (leb 32) (now (t .entry)) ⌝ }
-{
-    let mut n: usize = 0;
-    while n < t.len() {
-        if t[n] < 32 {
-            return n;
-        }
-        n += 1;
-    }
-    n
-}
-
-// The row line at a place of a font. Most are bytes of 32 or above and an LF: one look at each byte finds the line's end and that all are legal.
+// The row line at a place of a font. Of a plain line, which most are, all bytes are known to be legal.
 pub fn row_at(f: Format, s: &[u8], at: usize) -> RowAt
     ensures { λ r. ⌜ r ≡ rowAt f (now (s .entry)) at ⌝ }
 {
-    if at < s.len() {
-        let n = plain_length(&s[at..]);
-        let end = at + n;
-        if end < s.len() {
-            if s[end] == b'\n' {
-                return row_there(row_where(f, &s[at..end], true), at, end + 1);
-            }
+    let cursor = Cursor { at };
+    match cursor.next_plain(s) {
+        PlainStep::Plain { end, next } => {
+            let n = next.at;
+            row_there(row_where(f, &s[at..end], true), at, n)
         }
+        PlainStep::Other => any_row_at(f, s, at),
     }
-    any_row_at(f, s, at)
 }
 
 // The same, where it has the given width.
