@@ -1,6 +1,11 @@
 // The files of the current folder, each read with room for a byte more than it may have, so that a file that is too long is seen to be.
 use crate::input::print_input;
+use ground::limits;
 ghost use Rattle.io.specs.Counts.{Counts};
+
+const MOST_FONT: usize = limits::MAX_FONT_LENGTH + 1;
+
+const MOST_CONTROL: usize = limits::MAX_CONTROL_FILE + 1;
 
 // Reads to the end of a file or of the buffer; a file that cannot be read is empty.
 fn read_file(fd: i32, buffer: &mut [u8]) -> usize
@@ -36,14 +41,14 @@ fn load(name: &[u8], buffer: &mut [u8]) -> usize
 
 // Draws by a font and a control file, which are read once.
 fn draw_by(font: &[u8], control: &[u8]) {
-    let mut codes = [0i32; 512];
-    let mut starts = [0usize; 512];
-    let mut widths = [0usize; 512];
+    let mut codes = [0i32; limits::MAX_CHARACTERS];
+    let mut starts = [0usize; limits::MAX_CHARACTERS];
+    let mut widths = [0usize; limits::MAX_CHARACTERS];
     let mut places = [0usize; 256];
-    let mut stages = [0usize; 256];
-    let mut firsts = [0i32; 256];
-    let mut lasts = [0i32; 256];
-    let mut news = [0i32; 256];
+    let mut stages = [0usize; limits::MAX_COMMANDS];
+    let mut firsts = [0i32; limits::MAX_COMMANDS];
+    let mut lasts = [0i32; limits::MAX_COMMANDS];
+    let mut news = [0i32; limits::MAX_COMMANDS];
     let files = drawing::read_files(
         font,
         control,
@@ -77,7 +82,7 @@ fn draw_with(font: &[u8]) {
         draw_by(font, b"");
         return;
     }
-    let mut control = [0u8; 16385];
+    let mut control = [0u8; MOST_CONTROL];
     let n = read_file(fd, &mut control);
     libc::close(fd);
     draw_by(font, &control[..n]);
@@ -85,7 +90,7 @@ fn draw_with(font: &[u8]) {
 
 // Draws by a font of any length.
 fn draw_long() {
-    let mut font = [0u8; 65537];
+    let mut font = [0u8; MOST_FONT];
     let n = load(b"font.flf", &mut font);
     draw_with(&font[..n]);
 }

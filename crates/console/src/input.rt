@@ -2,10 +2,12 @@
 use crate::printing::print_line;
 use cutting::Step;
 use drawing::Files;
+use ground::limits;
 use libc::STDIN_FILENO;
 ghost use mathlib.Core.List.{List};
 ghost use Prim.Native.Nat.{ℕ, _≤_};
 ghost use lib.ListN.{length};
+ghost use Rattle.ground.specs.Limits.{minScratch};
 ghost use Rattle.cutting.specs.Parts.{mostKept};
 ghost use Rattle.drawing.specs.Held.{FilesHeld};
 
@@ -29,7 +31,7 @@ fn print_part(
     news: &[i32],
 ) -> usize
     requires { ⌜ ((control : List ℕ) × FilesHeld (now font) control files (now codes) (now starts) (now widths) (now places) (now stages) (now firsts) (now lasts) (now news)) ⌝ }
-    requires { ⌜ (held ≤ mostKept) × (mostKept ≤ length (now line)) × (32000 ≤ length (now area)) ⌝ }
+    requires { ⌜ (held ≤ mostKept) × (mostKept ≤ length (now line)) × (minScratch ≤ length (now area)) ⌝ }
     ensures { λ r. ⌜ r ≤ mostKept ⌝ }
 {
     let mut at: usize = 0;
@@ -81,7 +83,7 @@ fn print_last(
     news: &[i32],
 )
     requires { ⌜ ((control : List ℕ) × FilesHeld (now font) control files (now codes) (now starts) (now widths) (now places) (now stages) (now firsts) (now lasts) (now news)) ⌝ }
-    requires { ⌜ (held ≤ length (now line)) × (32000 ≤ length (now area)) ⌝ }
+    requires { ⌜ (held ≤ length (now line)) × (minScratch ≤ length (now area)) ⌝ }
 {
     if 0 < held {
         let text = &line[..held];
@@ -122,7 +124,7 @@ fn print_reads(
     news: &[i32],
 ) -> usize
     requires { ⌜ ((control : List ℕ) × FilesHeld (now font) control files (now codes) (now starts) (now widths) (now places) (now stages) (now firsts) (now lasts) (now news)) ⌝ }
-    requires { ⌜ (mostKept ≤ length (now line)) × (32000 ≤ length (now area)) ⌝ }
+    requires { ⌜ (mostKept ≤ length (now line)) × (minScratch ≤ length (now area)) ⌝ }
     ensures { λ r. ⌜ r ≤ mostKept ⌝ }
 {
     let mut held: usize = 0;
@@ -174,7 +176,7 @@ pub(crate) fn print_input(
     let mut part = [0u8; 2048];
     let mut line = [0u8; cutting::MOST_KEPT];
     let mut out = [0u8; 2048];
-    let mut area = [0u8; 32000];
+    let mut area = [0u8; limits::MIN_SCRATCH];
     let held = print_reads(
         &mut part,
         &mut line,

@@ -1,6 +1,7 @@
 // What is printed of one line: its rows, or its refusal.
 use drawing::DrawAnswer;
 use drawing::Files;
+use ground::limits;
 use ground::refusals;
 use ground::refusals::Refusal;
 use libc::STDOUT_FILENO;
@@ -8,11 +9,12 @@ ghost use mathlib.Core.Path.{_≡_};
 ghost use mathlib.Core.List.{List};
 ghost use Prim.Native.Nat.{ℕ, _≤_};
 ghost use lib.ListN.{length};
+ghost use Rattle.ground.specs.Limits.{minScratch};
 ghost use Rattle.drawing.specs.Held.{FilesHeld};
 ghost use Rattle.console.specs.Rows.{heightOf, RowsIn};
 
 // Room for the largest output: 32 rows of 1,000 columns, each with its LF.
-const ROOM: usize = 32032;
+const ROOM: usize = limits::MAX_HEIGHT * (limits::MAX_LINE_WIDTH + 1);
 
 // "A refused line prints `refused`, a blank, the number, ` at `, the place, LF."
 fn print_refusal(r: Refusal) {
@@ -61,7 +63,7 @@ fn print_wide(
     news: &[i32],
 )
     requires { ⌜ ((control : List ℕ) × FilesHeld (now font) control files (now codes) (now starts) (now widths) (now places) (now stages) (now firsts) (now lasts) (now news)) ⌝ }
-    requires { ⌜ 32000 ≤ length (now area) ⌝ }
+    requires { ⌜ minScratch ≤ length (now area) ⌝ }
 {
     let mut out = [0u8; ROOM];
     match drawing::draw_line(
@@ -101,7 +103,7 @@ pub(crate) fn print_line(
     news: &[i32],
 )
     requires { ⌜ ((control : List ℕ) × FilesHeld (now font) control files (now codes) (now starts) (now widths) (now places) (now stages) (now firsts) (now lasts) (now news)) ⌝ }
-    requires { ⌜ 32000 ≤ length (now area) ⌝ }
+    requires { ⌜ minScratch ≤ length (now area) ⌝ }
 {
     match drawing::draw_line(
         out,

@@ -22,7 +22,7 @@ ghost use mathlib.Core.List.{List};
 ghost use Prim.Native.Nat.{ℕ, _+_, _<_, _≤_};
 ghost use lib.IntN.{pos};
 ghost use lib.ListN.{length};
-ghost use Rattle.ground.specs.Limits.{maxCharacters, maxCommands};
+ghost use Rattle.ground.specs.Limits.{maxLineWidth, maxHeight, maxCharacters, maxCommands, minScratch};
 ghost use Rattle.lines.specs.Lines.{lineEnd, nextStart, after};
 ghost use Rattle.chars.specs.Codes.{code};
 ghost use Rattle.font.specs.Font.{reading};
@@ -137,8 +137,8 @@ fn draw_code(
 ) -> usize
     requires { ⌜ FontHeld (now font) header count (now codes) (now starts) (now widths) (now places) ⌝ }
     requires { ⌜ mode ≡ modeOf header ⌝ }
-    requires { ⌜ (n ≤ 1000) × (32000 ≤ length (now area)) × (32 ≤ length (now found)) ⌝ }
-    requires { ⌜ RowAfterRow 1000 (header .height) (now rows) ⌝ }
+    requires { ⌜ (n ≤ maxLineWidth) × (minScratch ≤ length (now area)) × (maxHeight ≤ length (now found)) ⌝ }
+    requires { ⌜ RowAfterRow maxLineWidth (header .height) (now rows) ⌝ }
     ensures { λ w. ⌜ Reached header w (now (area .exit)) (withCharacter header (now (font .entry)) (used code (entriesOf (reading (now (font .entry))))) (scratchLine (modeOf header .direction) n (now (area .entry)))) ⌝ }
 {
     match reader::find_known(codes, starts, widths, count, places, code) {
@@ -181,7 +181,7 @@ fn join_text(
     requires { ⌜ FontHeld (now font) header count (now codes) (now starts) (now widths) (now places) ⌝ }
     requires { ⌜ ((control : List ℕ) × ControlHeld control commands (now stages) (now firsts) (now lasts) (now news)) ⌝ }
     requires { ⌜ mode ≡ modeOf header ⌝ }
-    requires { ⌜ 32000 ≤ length (now area) ⌝ }
+    requires { ⌜ minScratch ≤ length (now area) ⌝ }
     ensures { λ w. ⌜ ((control : List ℕ) (held : ControlHeld control commands (now (stages .entry)) (now (firsts .entry)) (now (lasts .entry)) (now (news .entry))) → Reached header w (now (area .exit)) (lineOf (now (font .entry)) header (entriesOf (reading (now (font .entry)))) (held .commands) (held .count) (now (text .entry)))) ⌝ }
 {
     let rows = join::row_starts(limits::MAX_LINE_WIDTH, header.height);
@@ -224,7 +224,7 @@ pub fn refuse(r: Refusal, out: &mut [u8]) -> DrawAnswer
 
 // Puts out the line w wide that the area holds.
 fn put_out(out: &mut [u8], area: &[u8], header: Header, mode: Mode, w: usize) -> DrawAnswer
-    requires { ⌜ (header .height ≤ 32) × (32000 ≤ length (now area)) ⌝ }
+    requires { ⌜ (header .height ≤ maxHeight) × (minScratch ≤ length (now area)) ⌝ }
     requires { ⌜ mode ≡ modeOf header ⌝ }
     ensures { λ a. ⌜ ((line : Figure) → Reached header w (now (area .entry)) line → PutOut (Lined.lined header line) (length (now (out .entry))) a (now (out .exit))) ⌝ }
 {
@@ -251,7 +251,7 @@ fn draw_text(
 ) -> DrawAnswer
     requires { ⌜ FontHeld (now font) header count (now codes) (now starts) (now widths) (now places) ⌝ }
     requires { ⌜ ((control : List ℕ) × ControlHeld control commands (now stages) (now firsts) (now lasts) (now news)) ⌝ }
-    requires { ⌜ 32000 ≤ length (now area) ⌝ }
+    requires { ⌜ minScratch ≤ length (now area) ⌝ }
     ensures { λ a. ⌜ ((control : List ℕ) → ControlHeld control commands (now (stages .entry)) (now (firsts .entry)) (now (lasts .entry)) (now (news .entry)) → PutOut (linedOf (now (font .entry)) control (now (text .entry))) (length (now (out .entry))) a (now (out .exit))) ⌝ }
 {
     if limits::MAX_TEXT < text.len() {
@@ -301,7 +301,7 @@ pub fn draw_line(
     news: &[i32],
 ) -> DrawAnswer
     requires { ⌜ ((control : List ℕ) × FilesHeld (now font) control files (now codes) (now starts) (now widths) (now places) (now stages) (now firsts) (now lasts) (now news)) ⌝ }
-    requires { ⌜ 32000 ≤ length (now area) ⌝ }
+    requires { ⌜ minScratch ≤ length (now area) ⌝ }
     ensures { λ a. ⌜ ((control : List ℕ) → FilesHeld (now (font .entry)) control files (now (codes .entry)) (now (starts .entry)) (now (widths .entry)) (now (places .entry)) (now (stages .entry)) (now (firsts .entry)) (now (lasts .entry)) (now (news .entry)) → PutOut (linedOf (now (font .entry)) control (now (text .entry))) (length (now (out .entry))) a (now (out .exit))) ⌝ }
 {
     match files {
@@ -402,7 +402,7 @@ pub fn draw_once(
     font: &[u8],
     control: &[u8],
 ) -> DrawAnswer
-    requires { ⌜ 32000 ≤ length (now area) ⌝ }
+    requires { ⌜ minScratch ≤ length (now area) ⌝ }
     ensures { λ a. ⌜ PutOut (linedOf (now (font .entry)) (now (control .entry)) (now (text .entry))) (length (now (out .entry))) a (now (out .exit)) ⌝ }
 {
     let mut codes = [0i32; limits::MAX_CHARACTERS];
