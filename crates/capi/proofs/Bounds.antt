@@ -1,20 +1,13 @@
 -- Every number, place and value of an answer has room in its 64 bits, so that none of them is lost.
 -- Assumes nothing.
 use mathlib.Core.Path.{_≡_, refl, sym, ap, _∙_, subst}
-use mathlib.Core.Bool.{Bool, true, false, not}
 use mathlib.Core.List.{List}
-use Prim.Native.Nat.{ℕ, _≤_, _*_, _/_, _%_}
+use Prim.Native.Nat.{ℕ, _/_, _%_}
 use native.Mathlib.Omega.{arith}
-use lib.Dec.{ltb}
 use lib.ListN.{length}
-use Rattle.ground.specs.Limits.{maxLineWidth}
-use Rattle.ground.specs.Refusals.{badShape, lineTooWide, areaTooSmall}
 use Rattle.ground.specs.declared.refusals.Refusal.{Refusal}
 use Rattle.ground.proofs.Tests.{clash}
 use Rattle.subchars.specs.declared.Mode.{Mode}
-use Rattle.join.specs.Join.{Figure, figure, leftOf, rightOf, overlap, besides}
-use Rattle.join.specs.Shape.{goodShape}
-use Rattle.join.proofs.Demand.{overlap-narrower}
 use Rattle.header.specs.declared.Header.{Header}
 use Rattle.font.specs.Font.{reading}
 use Rattle.font.proofs.ReadingLaws.{font-refusal, font-read}
@@ -30,10 +23,10 @@ use Rattle.figure.specs.declared.DrawAnswer.{DrawAnswer}
 use Rattle.figure.specs.declared.DrawAnswer.the-variants as draw-is
 use Rattle.wattleslate.specs.declared.JoinAnswer.the-variants as join-is
 use Rattle.wattleslate.specs.DrawCall.{drawTells, drawTold}
-use Rattle.wattleslate.specs.JoinCall.{JoinTold, joinTells, refuseIf, joinTold, toldOf}
+use Rattle.wattleslate.specs.JoinCall.{JoinTold, joinTells, joinTold}
 use Rattle.wattleslate.proofs.ToldApart.{draw-apart}
 use Rattle.wattleslate.proofs.DrawRefusals.{DrawsTo, scratch-small, font-refused, control-refused, text-too-long, line-too-wide, output-small, draws, drawAnswer, only-so, always}
-use Rattle.wattleslate.proofs.JoinRefusals.{joined-only, joined-if}
+use Rattle.wattleslate.proofs.JoinRefusals.{join-refusal, joined-within}
 use Rattle.capi.specs.Numbers.{packed, Packs, paired, Pairs}
 
 -- A caller that takes an answer apart finds what was put in.
@@ -104,44 +97,14 @@ module _ (size : ℕ) (s control text : List ℕ) (room : ℕ) where
       let x = always size s control text room in
       subst DrawnPacks (sym (draw-apart a (drawAnswer size s control text room) e ∙ only-so size s control text room (x .0) (x .1))) (by-reason (x .0) (x .1))
 
--- A join's: the result is at most 1,000 columns wide, and the overlap is not wider.
+-- A join's.
 module _ (y : Mode) (h n : ℕ) (line : List ℕ) (m : ℕ) (character : List ℕ) (room : ℕ) where
-  abbrev left : Figure
-  left = leftOf (y .direction) (figure n line) (figure m character)
-
-  abbrev right : Figure
-  right = rightOf (y .direction) (figure n line) (figure m character)
-
-  abbrev width : ℕ
-  width = besides y h left right .width
-
-  abbrev told : JoinTold
-  told = joinTold y h n line m character room
-
-  abbrev of : Bool → Bool → Bool → JoinTold
-  of a b c = refuseIf a badShape (refuseIf b lineTooWide (refuseIf c areaTooSmall (joinTells (join-is.Joined (overlap y h left right) width))))
-
-  low : (told .number ≤ badShape) × (told .place ≡ 0)
-  unfolding joinTold toldOf
-  low = go (not (goodShape y h n (length line) m (length character))) (ltb maxLineWidth width) (ltb room (h * width))
-    where
-      go : (a b c : Bool) → (of a b c .number ≤ badShape) × (of a b c .place ≡ 0)
-      go true b c = (omega arith, refl)
-      go false true c = (omega arith, refl)
-      go false false true = (omega arith, refl)
-      go false false false = (omega arith, refl)
-
-  pub join-packs : (r : Refusal) → joinTells (join-is.Refused r) ≡ told → Packs (r .number) (r .place)
+  pub join-packs : (r : Refusal) → joinTells (join-is.Refused r) ≡ joinTold y h n line m character room → Packs (r .number) (r .place)
   join-packs r e =
-      let number : r .number ≡ told .number = ap (λ (t : JoinTold). t .number) e in
-      let place : r .place ≡ told .place = ap (λ (t : JoinTold). t .place) e in
-      record { of-table = omega (arith, number, low .0); in-32 = omega (arith, place, low .1) }
+      let low = join-refusal y h n line m character room in
+      record { of-table = omega (arith, ap (λ (t : JoinTold). t .number) e, low .0); in-32 = omega (arith, ap (λ (t : JoinTold). t .place) e, low .1) }
 
-  pub join-pairs : (o w : ℕ) → joinTells (join-is.Joined o w) ≡ told → Pairs o w
-  unfolding besides
+  pub join-pairs : (o w : ℕ) → joinTells (join-is.Joined o w) ≡ joinTold y h n line m character room → Pairs o w
   join-pairs o w e =
-      let j = joined-only y h n line m character room (sym (ap (λ (t : JoinTold). t .refused) e)) in
-      let is = e ∙ joined-if y h n line m character room (j .0) (j .1) (j .2) in
-      let over : o ≡ overlap y h left right = ap (λ (t : JoinTold). t .overlap) is in
-      let wide : w ≡ width = ap (λ (t : JoinTold). t .width) is in
-      record { high-in-16 = omega (arith, over, wide, j .1, overlap-narrower h left right y); low-in-16 = omega (arith, wide, j .1) }
+      let k = joined-within y h n line m character room o w e in
+      record { high-in-16 = omega (arith, k .0, k .1); low-in-16 = omega (arith, k .1) }

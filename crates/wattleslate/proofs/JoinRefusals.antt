@@ -1,6 +1,6 @@
 -- Each refusal of a join is given exactly when document 01 says so.
 -- Assumes nothing.
-use mathlib.Core.Path.{_≡_, refl}
+use mathlib.Core.Path.{_≡_, refl, sym, ap, _∙_}
 use mathlib.Core.Bool.{Bool, true, false, not, true≢false}
 use mathlib.Core.List.{List}
 use Prim.Native.Nat.{ℕ, _*_, _≤_, _<_}
@@ -13,6 +13,7 @@ use Rattle.ground.specs.Refusals.{areaTooSmall, lineTooWide, badShape}
 use Rattle.subchars.specs.declared.Mode.{Mode}
 use Rattle.join.specs.Join.{Figure, figure, leftOf, rightOf, overlap, besides}
 use Rattle.join.specs.Shape.{goodShape}
+use Rattle.join.proofs.Demand.{overlap-narrower}
 use Rattle.wattleslate.specs.declared.JoinAnswer.the-variants.{Joined}
 use Rattle.wattleslate.specs.JoinCall.{JoinTold, joinTells, refuseIf, toldOf, joinTold}
 
@@ -38,6 +39,12 @@ module _ (o w : ℕ) where
   third false true c e = absurd (omega arith)
   third false false true e = (refl, refl, refl)
   third false false false e = absurd (omega arith)
+
+  low : (a b c : Bool) → (fall a b c .number ≤ badShape) × (fall a b c .place ≡ 0)
+  low true b c = (omega arith, refl)
+  low false true c = (omega arith, refl)
+  low false false true = (omega arith, refl)
+  low false false false = (omega arith, refl)
 
   none : (a b c : Bool) → fall a b c .refused ≡ false → (a ≡ false) × (b ≡ false) × (c ≡ false)
   none true b c e = absurd (true≢false e)
@@ -108,3 +115,18 @@ module _ (y : Mode) (h n : ℕ) (line : List ℕ) (m : ℕ) (character : List �
   pub joined-if : shape ≡ true → width ≤ maxLineWidth → h * width ≤ room → answer ≡ joinTells (Joined (overlap y h left right) width)
   unfolding joinTold toldOf
   joined-if e u v = rw (e, le-ltb 1000 width u, le-ltb room (h * width) v)
+
+  -- no other number, and no place but 0
+  pub join-refusal : (answer .number ≤ badShape) × (answer .place ≡ 0)
+  unfolding joinTold toldOf
+  join-refusal = low (overlap y h left right) width (not shape) wide full
+
+  -- the result is at most 1,000 columns wide, and the overlap is not wider
+  pub joined-within : (o w : ℕ) → joinTells (Joined o w) ≡ answer → (o ≤ w) × (w ≤ maxLineWidth)
+  unfolding besides
+  joined-within o w e =
+      let j = joined-only (sym (ap (λ (t : JoinTold). t .refused) e)) in
+      let is = e ∙ joined-if (j .0) (j .1) (j .2) in
+      let over : o ≡ overlap y h left right = ap (λ (t : JoinTold). t .overlap) is in
+      let wide : w ≡ width = ap (λ (t : JoinTold). t .width) is in
+      (omega (arith, over, wide, overlap-narrower h left right y), omega (arith, wide, j .1))
