@@ -12,7 +12,7 @@ use Rattle.header.specs.declared.Header.{Header}
 use Rattle.font.specs.Font.{reading}
 use Rattle.font.proofs.ReadingLaws.{font-refusal, font-read}
 use Rattle.reader.specs.declared.FontAnswer.the-variants as font-is
-use Rattle.reader.specs.Reader.{answerOf}
+use Rattle.reader.specs.Reader.{fontAnswer}
 use Rattle.reader.proofs.ReadLaws.{read-says, unread-refuses}
 use Rattle.flc.specs.declared.ControlAnswer.the-variants as control-is
 use Rattle.flc.specs.Control as flc
@@ -42,12 +42,12 @@ pair-packs high low x e p = record { of-table = omega arith; in-32 = omega (arit
 
 -- A font's: its Height is at most 32, and it has at most 512 characters.
 module _ (s : List ℕ) where
-  pub font-packs : (r : Refusal) → font-is.Refused r ≡ answerOf (reading s) → Packs (r .number) (r .place)
+  pub font-packs : (r : Refusal) → font-is.Refused r ≡ fontAnswer (reading s) → Packs (r .number) (r .place)
   font-packs r e =
       let n = font-refusal s r (unread-refuses (reading s) r e) in
       record { of-table = omega (arith, n .1); in-32 = omega (arith, n .3) }
 
-  pub font-pairs : (h : Header) (n : ℕ) → font-is.Read h n ≡ answerOf (reading s) → Pairs (h .height) n
+  pub font-pairs : (h : Header) (n : ℕ) → font-is.Read h n ≡ fontAnswer (reading s) → Pairs (h .height) n
   font-pairs h n e =
       let said = read-says (reading s) h n e in
       let is = font-read s h _ (said .is) in
@@ -55,20 +55,20 @@ module _ (s : List ℕ) where
 
 -- A control file's: at most 256 commands and 64 stages.
 module _ (s : List ℕ) where
-  pub control-packs : (r : Refusal) → control-is.Refused r ≡ lists.answerOf (flc.control s) → Packs (r .number) (r .place)
+  pub control-packs : (r : Refusal) → control-is.Refused r ≡ lists.controlAnswer (flc.control s) → Packs (r .number) (r .place)
   control-packs r e = go (flc.control s) refl e
     where
-      go : (x : flc.Reading) → flc.control s ≡ x → control-is.Refused r ≡ lists.answerOf x → Packs (r .number) (r .place)
+      go : (x : flc.ControlReading) → flc.control s ≡ x → control-is.Refused r ≡ lists.controlAnswer x → Packs (r .number) (r .place)
       go (flc.reads cs k) p q = clash (cc)
       go (flc.refuses z) p q =
           let same : r ≡ z = cc in
           let n = control-refusal s r (p ∙ ap flc.refuses (sym same)) in
           record { of-table = omega (arith, n .1); in-32 = omega (arith, n .3) }
 
-  pub control-pairs : (n k : ℕ) → control-is.Read n k ≡ lists.answerOf (flc.control s) → Pairs k n
+  pub control-pairs : (n k : ℕ) → control-is.Read n k ≡ lists.controlAnswer (flc.control s) → Pairs k n
   control-pairs n k e = go (flc.control s) refl e
     where
-      go : (x : flc.Reading) → flc.control s ≡ x → control-is.Read n k ≡ lists.answerOf x → Pairs k n
+      go : (x : flc.ControlReading) → flc.control s ≡ x → control-is.Read n k ≡ lists.controlAnswer x → Pairs k n
       go (flc.reads cs j) p q =
           let few = control-few s cs j p in
           let same : n ≡ length cs = cc in

@@ -15,7 +15,7 @@ ghost use Rattle.ground.specs.Area.{zeros};
 ghost use Rattle.ground.specs.declared.refusals.Refusal.{Refusal};
 ghost use Rattle.font.specs.Font.{reading};
 ghost use Rattle.flc.specs.Control.{control};
-ghost use Rattle.reader.specs.Reader.{answerOf};
+ghost use Rattle.reader.specs.Reader.{fontAnswer};
 ghost use Rattle.wattleslate.specs.ControlCall.{controlTold};
 ghost use Rattle.wattleslate.specs.DrawCall.{drawTold, drawOutput};
 ghost use Rattle.capi.specs.Numbers.{packed, Packs, paired, Pairs, fontNumber, controlNumber, drawNumber, joinNumber, joinTaken, joinLeft};
@@ -39,7 +39,7 @@ fn paired(high: usize, low: usize) -> usize
 // Reads a font, and answers its height and how many characters it has. Refusals 1 to 8.
 #[no_mangle]
 pub extern "C" fn wattleslate_check_font(font: &[u8]) -> u64
-    ensures answer { λ r. ⌜ r ≡ fontNumber (answerOf (reading (now (font .entry)))) ⌝ }
+    ensures answer { λ r. ⌜ r ≡ fontNumber (fontAnswer (reading (now (font .entry)))) ⌝ }
 {
     let mut codes = [0i32; limits::MAX_CHARACTERS];
     let mut starts = [0usize; limits::MAX_CHARACTERS];

@@ -16,7 +16,7 @@ use Rattle.lines.specs.declared.Cursor.{Cursor}
 use Rattle.lines.specs.Lines.{TextLine, linesFrom, textAt, nextStart, after}
 use Rattle.lines.proofs.LineLaws.{lines-none, lines-next, after-lines, LineFound, line-part}
 use Rattle.rows.specs.declared.Format.{Format}
-use Rattle.rows.specs.Rows.{Rows, read, refused, character, lineCount}
+use Rattle.rows.specs.Rows.{Rows, read, refused, characterRows, lineCount}
 use Rattle.rows.specs.Steps.{charThen, charAt}
 use Rattle.chars.specs.declared.TagStep.{TagStep}
 use Rattle.chars.specs.declared.TagStep.the-variants.{Tag, BadTag}
@@ -49,7 +49,7 @@ following f s n (Stopped r) = ends (stopped r)
 module _ (f : Format) (s : List ℕ) (n : ℕ) (g : List TextLine → Listing) (later : (next : ℕ) → g (linesFrom s next) ≡ rest f s (suc n) next) where
   character-step : (at : ℕ) (c : Code) →
       characterThen f (length s) c (linesFrom s at) (g (drop (lineCount f) (linesFrom s at))) ≡ following f s n (listedAt f s at c)
-  unfolding listedAt charAt character
+  unfolding listedAt charAt characterRows
   character-step at c = go (ltb at (length s)) refl
     where
       by : (v : Rows) → listed v c at (g (drop (lineCount f) (linesFrom s at))) ≡ following f s n (listedThen (charThen v (after (lineCount f) s at)) c at)
@@ -57,17 +57,17 @@ module _ (f : Format) (s : List ℕ) (n : ℕ) (g : List TextLine → Listing) (
       by (refused r) = refl
 
       go : (b : Bool) → ltb at (length s) ≡ b →
-          characterThen f (length s) c (linesFrom s at) (g (drop (lineCount f) (linesFrom s at))) ≡ following f s n (listedThen (charThen (character f (length s) (linesFrom s at)) (after (lineCount f) s at)) c at)
+          characterThen f (length s) c (linesFrom s at) (g (drop (lineCount f) (linesFrom s at))) ≡ following f s n (listedThen (charThen (characterRows f (length s) (linesFrom s at)) (after (lineCount f) s at)) c at)
       go true e =
           let l = lines-next s at (ltb-true at (length s) e) in
           let more = g (drop (lineCount f) (linesFrom s at)) in
           ap (λ (ls : List TextLine). characterThen f (length s) c ls more) l ∙
-          ap (λ (ls : List TextLine). listed (character f (length s) ls) c at more) (sym l) ∙
-          by (character f (length s) (linesFrom s at))
+          ap (λ (ls : List TextLine). listed (characterRows f (length s) ls) c at more) (sym l) ∙
+          by (characterRows f (length s) (linesFrom s at))
       go false e =
           let l = lines-none s at (ltb-false at (length s) e) in
           ap (λ (ls : List TextLine). characterThen f (length s) c ls (g (drop (lineCount f) (linesFrom s at)))) l ∙
-          sym (ap (λ (ls : List TextLine). following f s n (listedThen (charThen (character f (length s) ls) (after (lineCount f) s at)) c at)) l)
+          sym (ap (λ (ls : List TextLine). following f s n (listedThen (charThen (characterRows f (length s) ls) (after (lineCount f) s at)) c at)) l)
 
 required-step : (f : Format) (s : List ℕ) (n at : ℕ) → n < requiredCount → rest f s n at ≡ following f s n (listedAt f s at (code (pos (getD requiredCodes n 0))))
 unfolding listing

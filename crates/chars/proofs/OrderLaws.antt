@@ -12,7 +12,7 @@ use Rattle.ground.specs.Limits.{maxCharacters}
 use Rattle.subchars.specs.declared.Code.{Code}
 use Rattle.lines.specs.Lines.{TextLine}
 use Rattle.rows.specs.declared.Format.{Format}
-use Rattle.rows.specs.Rows.{Rows, read, refused, character, lineCount}
+use Rattle.rows.specs.Rows.{Rows, read, refused, characterRows, lineCount}
 use Rattle.rows.proofs.RowLaws.{AllRead, character-read}
 use Rattle.chars.specs.declared.Entry.{Entry}
 use Rattle.chars.specs.declared.TagStep.{TagStep}
@@ -31,9 +31,9 @@ character-ordered :
     (f : Format) (size : ℕ) (c : Code) (ls : List TextLine) (more : Listing) →
     InOrder f (drop (lineCount f) ls) (more .entries) → InOrder f ls (characterThen f size c ls more .entries)
 character-ordered f size c [] more o = none
-character-ordered f size c (l ∷ ls) more o = go (character f size (l ∷ ls)) refl
+character-ordered f size c (l ∷ ls) more o = go (characterRows f size (l ∷ ls)) refl
   where
-    go : (v : Rows) → character f size (l ∷ ls) ≡ v → InOrder f (l ∷ ls) (listed v c (l .start) more .entries)
+    go : (v : Rows) → characterRows f size (l ∷ ls) ≡ v → InOrder f (l ∷ ls) (listed v c (l .start) more .entries)
     go (read w) e = here refl (character-read f size w (l ∷ ls) e) o
     go (refused r) e = none
 

@@ -20,7 +20,7 @@ use Rattle.lines.specs.Numbers.{codeNumber}
 use Rattle.lines.specs.declared.numbers.CodeNumber.{CodeNumber}
 use Rattle.lines.specs.declared.numbers.CodeNumber.the-variants.{Named, NotCode}
 use Rattle.rows.specs.declared.Format.{Format}
-use Rattle.rows.specs.Rows.{Rows, read, refused, character, lineCount}
+use Rattle.rows.specs.Rows.{Rows, read, refused, characterRows, lineCount}
 use Rattle.rows.specs.Steps.{charThen, charAt}
 use Rattle.rows.proofs.RefusalLaws.{refused-numbers}
 use Rattle.chars.specs.declared.TagStep.{TagStep}
@@ -71,9 +71,9 @@ place-of (Stopped r) = r .place
 -- A character's own refusals are those of its rows.
 listed-number : (f : Format) (s : List ℕ) (at : ℕ) (c : Code) → number-of (listedAt f s at c) ≤ 6
 unfolding listedAt charAt number-of
-listed-number f s at c = go (character f (length s) (linesFrom s at)) refl
+listed-number f s at c = go (characterRows f (length s) (linesFrom s at)) refl
   where
-    go : (v : Rows) → character f (length s) (linesFrom s at) ≡ v → number-of (listedThen (charThen v (after (lineCount f) s at)) c at) ≤ 6
+    go : (v : Rows) → characterRows f (length s) (linesFrom s at) ≡ v → number-of (listedThen (charThen v (after (lineCount f) s at)) c at) ≤ 6
     go (read w) e = omega arith
     go (refused r) e = refused-numbers f (length s) (linesFrom s at) r e .1
 

@@ -19,11 +19,11 @@ count k zero = []
 count k (suc n) = k ∷ count (suc k) n
 
 -- "Codes 32 to 126, then 196, 214, 220, 228, 246, 252, 223."
-abbrev pub german : List ℕ
-german = 196 ∷ 214 ∷ 220 ∷ 228 ∷ 246 ∷ 252 ∷ 223 ∷ []
+abbrev pub deutsch : List ℕ
+deutsch = 196 ∷ 214 ∷ 220 ∷ 228 ∷ 246 ∷ 252 ∷ 223 ∷ []
 
 unfoldable pub requiredCodes : List ℕ
-requiredCodes = count 32 95 ++ german
+requiredCodes = count 32 95 ++ deutsch
 
 -- How many they are.
 abbrev pub requiredCount : ℕ

@@ -47,7 +47,7 @@ const REQUIRED: usize = 102;
 
 const ASCII: usize = 95;
 
-const GERMAN: [usize; 7] = [196, 214, 220, 228, 246, 252, 223];
+const DEUTSCH: [usize; 7] = [196, 214, 220, 228, 246, 252, 223];
 
 // The k-th of the required codes, from 0.
 fn required(k: usize) -> usize
@@ -57,7 +57,7 @@ fn required(k: usize) -> usize
     if k < ASCII {
         return k + 32;
     }
-    GERMAN[k - ASCII]
+    DEUTSCH[k - ASCII]
 }
 
 pub fn same_code(a: Code, b: Code) -> bool

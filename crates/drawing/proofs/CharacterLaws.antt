@@ -9,11 +9,11 @@ use lib.ListN.{getD}
 use Rattle.ground.specs.Limits.{maxHeight, maxLineWidth}
 use Rattle.subchars.specs.declared.Code.{Code}
 use Rattle.subchars.specs.declared.Mode.{Mode}
-use Rattle.join.specs.Join.{Figure}
+use Rattle.join.specs.Join.{Block}
 use Rattle.join.proofs.Likeness.{like-same, like-trans}
 use Rattle.join.specs.Writing.{Like}
 use Rattle.figure.specs.Line.{attached}
-use Rattle.figure.specs.Scratch.{scratchLine, rowsAt, RowsIn, Holds}
+use Rattle.figure.specs.Scratch.{scratchLine, characterAt, RowsIn, HoldsLine}
 use Rattle.figure.proofs.Folding.{attached-like}
 use Rattle.header.specs.declared.Header.{Header}
 use Rattle.chars.specs.declared.Entry.{Entry}
@@ -73,24 +73,24 @@ module _ (s : List ℕ) (h : Header) (count : ℕ) (codes : List ℤ) (starts wi
         pub rows-in : RowsIn s at (e .width) (h .height)
         rows-in = record { many = found .many; within = λ r l. omega (arith, stands r l .fits, found .at r l) }
 
-        rows-like : Like (h .height) (rowsAt s at (e .width)) (characterOf s e)
+        rows-like : Like (h .height) (characterAt s at (e .width)) (characterOf s e)
         rows-like = record { width = refl; cells = λ r k l m. ap (λ (p : ℕ). getD s (p + k) 0) (found .at r l) }
 
         module _ (n w : ℕ) (area area′ : List ℕ) where
-          abbrev line : Figure
+          abbrev line : Block
           line = scratchLine (modeOf h .direction) n area
 
-          reached-by : Holds (modeOf h .direction) (h .height) w area′ (attached (modeOf h) (h .height) line (rowsAt s at (e .width))) →
+          reached-by : HoldsLine (modeOf h .direction) (h .height) w area′ (attached (modeOf h) (h .height) line (characterAt s at (e .width))) →
               Reached h w area′ (attached (modeOf h) (h .height) line (characterOf s e))
           reached-by x =
-              let a = attached-like (modeOf h) (h .height) line line (rowsAt s at (e .width)) (characterOf s e) (like-same (h .height) line) rows-like in
+              let a = attached-like (modeOf h) (h .height) line line (characterAt s at (e .width)) (characterOf s e) (like-same (h .height) line) rows-like in
               record {
                 within = λ l. like-trans (h .height) _ _ _ (record { width = x .width; cells = x .cells l }) a;
                 beyond = λ l. omega (arith, x .width, a .width);
               }
 
-          pub reached : (y : Mode) → y ≡ modeOf h → Holds (y .direction) (h .height) w area′ (attached y (h .height) (scratchLine (y .direction) n area) (rowsAt s at (e .width))) →
+          pub reached : (y : Mode) → y ≡ modeOf h → HoldsLine (y .direction) (h .height) w area′ (attached y (h .height) (scratchLine (y .direction) n area) (characterAt s at (e .width))) →
               Reached h w area′ (withCharacter h s (used c (entriesOf (reading s))) line)
           reached y p x =
               subst (λ (v : Use). Reached h w area′ (withCharacter h s v line)) (sym (used-held (Used e) u))
-              (reached-by (subst (λ (z : Mode). Holds (z .direction) (h .height) w area′ (attached z (h .height) (scratchLine (z .direction) n area) (rowsAt s at (e .width)))) p x))
+              (reached-by (subst (λ (z : Mode). HoldsLine (z .direction) (h .height) w area′ (attached z (h .height) (scratchLine (z .direction) n area) (characterAt s at (e .width)))) p x))

@@ -10,7 +10,7 @@ use lib.ListN.{replicate}
 use Rattle.ground.specs.Area.{values}
 use Rattle.ground.specs.Text.{byte}
 use Rattle.subchars.specs.declared.Mode.{Mode}
-use Rattle.join.specs.Join.{Figure, rowsOf}
+use Rattle.join.specs.Join.{Block, rowsOf}
 use Rattle.figure.specs.Line.{attached, empty, lineFrom, overlapsFrom, shown}
 use Rattle.figure.proofs.Turning.{over-le, attached-wide}
 use Rattle.header.specs.declared.Header.{Header}
@@ -25,7 +25,7 @@ use Rattle.drawing.specs.Drawing.{codesOf, mappedCodes, withUsed, drawnE
 use Rattle.drawing.specs.Steps.{withCharacter}
 
 -- Joining in turn goes on from what was joined.
-from-append : (y : Mode) (h : ℕ) (l : Figure) (xs ys : List Figure) → lineFrom y h l (xs ++ ys) ≡ lineFrom y h (lineFrom y h l xs) ys
+from-append : (y : Mode) (h : ℕ) (l : Block) (xs ys : List Block) → lineFrom y h l (xs ++ ys) ≡ lineFrom y h (lineFrom y h l xs) ys
 unfolding lineFrom
 from-append y h l [] ys = refl
 from-append y h l (x ∷ xs) ys = from-append y h (attached y h l x) xs ys
@@ -77,10 +77,10 @@ unfoldable pub sum : List ℕ → ℕ
 sum [] = 0
 sum (n ∷ ns) = n + sum ns
 
-unfoldable pub widths : List Figure → List ℕ
-widths fs = map (λ (f : Figure). f .width) fs
+unfoldable pub widths : List Block → List ℕ
+widths fs = map (λ (f : Block). f .width) fs
 
-from-wide : (y : Mode) (h : ℕ) (l : Figure) (fs : List Figure) → lineFrom y h l fs .width + sum (overlapsFrom y h l fs) ≡ l .width + sum (widths fs)
+from-wide : (y : Mode) (h : ℕ) (l : Block) (fs : List Block) → lineFrom y h l fs .width + sum (overlapsFrom y h l fs) ≡ l .width + sum (widths fs)
 unfolding lineFrom overlapsFrom sum widths
 from-wide y h l [] = refl
 from-wide y h l (f ∷ fs) =

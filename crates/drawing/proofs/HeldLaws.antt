@@ -10,7 +10,7 @@ use Rattle.ground.specs.Limits.{maxCharacters}
 use Rattle.ground.specs.declared.refusals.Refusal.{Refusal}
 use Rattle.header.specs.declared.Header.{Header}
 use Rattle.font.specs.Font as font
-use Rattle.index.specs.Index.{Room}
+use Rattle.index.specs.Index.{CharacterRoom}
 use Rattle.index.specs.Latest.{Latest}
 use Rattle.reader.specs.declared.FontAnswer.{FontAnswer}
 use Rattle.reader.specs.declared.FontAnswer.the-variants as step
@@ -25,17 +25,17 @@ use Rattle.drawing.specs.Drawing.{linedBy, linedOf}
 use Rattle.drawing.specs.Held.{FontHeld, FontHeldBy, filesOf, FilesHeld}
 
 -- A filled list has its length.
-pub room-kept : (a a′ : List ℤ) (b b′ c c′ : List ℕ) → Room maxCharacters a b c → length a′ ≡ length a → length b′ ≡ length b → length c′ ≡ length c → Room maxCharacters a′ b′ c′
+pub room-kept : (a a′ : List ℤ) (b b′ c c′ : List ℕ) → CharacterRoom maxCharacters a b c → length a′ ≡ length a → length b′ ≡ length b → length c′ ≡ length c → CharacterRoom maxCharacters a′ b′ c′
 room-kept a a′ b b′ c c′ m p q r = record { for-codes = omega (arith, m .for-codes, p); for-starts = omega (arith, m .for-starts, q); for-widths = omega (arith, m .for-widths, r) }
 
 module _ (s : List ℕ) (r : FontAnswer) (codes : List ℤ) (starts widths : List ℕ) (into : ReadInto (font.reading s) r codes starts widths) where
   module _ (h : Header) (n : ℕ) (e : r ≡ step.Read h n) where
-    pub few-characters : Room maxCharacters codes starts widths → (n ≤ length codes) × ((n ≤ length starts) × (n ≤ length widths))
+    pub few-characters : CharacterRoom maxCharacters codes starts widths → (n ≤ length codes) × ((n ≤ length starts) × (n ≤ length widths))
     few-characters m =
         let x = read-says (font.reading s) h n (sym e ∙ into .answer) in
         (omega (arith, x .count, into .lists .few, m .for-codes), (omega (arith, x .count, into .lists .few, m .for-starts), omega (arith, x .count, into .lists .few, m .for-widths)))
 
-    pub font-held : Room maxCharacters codes starts widths → (places : List ℕ) → Latest (take n codes) places → FontHeld s h n codes starts widths places
+    pub font-held : CharacterRoom maxCharacters codes starts widths → (places : List ℕ) → Latest (take n codes) places → FontHeld s h n codes starts widths places
     font-held m places l =
         let x = read-says (font.reading s) h n (sym e ∙ into .answer) in
         let f = few-characters m in
@@ -63,5 +63,5 @@ module _ (s c : List ℕ) (codes : List ℤ) (starts widths places stages : List
   unfolding linedOf
   files-held (step.Read h n) (answer.Read m k) x y = (x, y)
   files-held (step.Read h n) (answer.Refused q) x y =
-      λ text. ap (λ (z : font.Reading). linedBy s z (flc.control c) text) (x .said) ∙ ap (λ (z : flc.Reading). linedBy s (font.says h (x .characters)) z text) y
-  files-held (step.Refused q) a x y = λ text. ap (λ (z : font.Reading). linedBy s z (flc.control c) text) x
+      λ text. ap (λ (z : font.FontReading). linedBy s z (flc.control c) text) (x .said) ∙ ap (λ (z : flc.ControlReading). linedBy s (font.says h (x .characters)) z text) y
+  files-held (step.Refused q) a x y = λ text. ap (λ (z : font.FontReading). linedBy s z (flc.control c) text) x

@@ -14,7 +14,7 @@ use Rattle.ground.specs.Limits.{maxLineWidth, maxText}
 use Rattle.ground.specs.Refusals.{refusal, textTooLong, lineTooWide}
 use Rattle.ground.specs.declared.refusals.Refusal.{Refusal}
 use Rattle.subchars.specs.declared.Mode.{Mode}
-use Rattle.join.specs.Join.{Figure}
+use Rattle.join.specs.Join.{Block}
 use Rattle.figure.specs.Line.{outputOf, outputBytes}
 use Rattle.figure.specs.Scratch.{scratchLine}
 use Rattle.figure.proofs.Showing.{too-wide, no-bytes, output-like, bytes-like}
@@ -25,17 +25,17 @@ use Rattle.flc.specs.declared.Command.{Command}
 use Rattle.flc.specs.Control as flc
 use Rattle.figure.specs.declared.DrawAnswer.{DrawAnswer}
 use Rattle.figure.specs.declared.DrawAnswer.the-variants.{Refused}
-use Rattle.drawing.specs.Drawing.{modeOf, lineOf, lined, unlined, linedBy, linedOf, answerOf, bytesOf, PutOut}
+use Rattle.drawing.specs.Drawing.{modeOf, lineOf, lined, unlined, linedBy, linedOf, drawAnswer, bytesOf, PutOut}
 use Rattle.drawing.specs.Steps.{Reached}
 
 -- A refusal leaves zeros.
 pub unlined-out : (r : Refusal) (room : ℕ) (out : List ℕ) → out ≡ zeros (room - 0) → PutOut (unlined r) room (Refused r) out
-unfolding answerOf bytesOf
+unfolding drawAnswer bytesOf
 unlined-out r room out e = record { answers = refl; holds = e }
 
 -- The line in the area, w wide, and the line that it stands for.
-module _ (h : Header) (w : ℕ) (area : List ℕ) (line : Figure) (reached : Reached h w area line) (room : ℕ) where
-  abbrev held : Figure
+module _ (h : Header) (w : ℕ) (area : List ℕ) (line : Block) (reached : Reached h w area line) (room : ℕ) where
+  abbrev held : Block
   held = scratchLine (modeOf h .direction) w area
 
   both-wide : maxLineWidth < w → outputOf (h .height) held room ≡ outputOf (h .height) line room
@@ -59,7 +59,7 @@ module _ (h : Header) (w : ℕ) (area : List ℕ) (line : Figure) (reached : Rea
 
   pub lined-out : (y : Mode) → y ≡ modeOf h → (a : DrawAnswer) (out : List ℕ) → a ≡ outputOf (h .height) (scratchLine (y .direction) w area) room →
       out ≡ padded (outputBytes (y .hardblank .0) (h .height) (scratchLine (y .direction) w area) room) room → PutOut (lined h line) room a out
-  unfolding answerOf bytesOf modeOf
+  unfolding drawAnswer bytesOf modeOf
   lined-out y p a out e b =
       record {
         answers = e ∙ ap (λ (z : Mode). outputOf (h .height) (scratchLine (z .direction) w area) room) p ∙ same-output;
@@ -70,7 +70,7 @@ module _ (h : Header) (w : ℕ) (area : List ℕ) (line : Figure) (reached : Rea
 module _ (s control text : List ℕ) (h : Header) (es : List Entry) (cs : List Command) (k : ℕ) (font-said : font.reading s ≡ font.says h es) (control-said : flc.control control ≡ flc.reads cs k) where
   read-lined : linedOf s control text ≡ cond (ltb maxText (length text)) (unlined (refusal textTooLong 0)) (lined h (lineOf s h es cs k text))
   unfolding linedOf
-  read-lined = ap (λ (f : font.Reading). linedBy s f (flc.control control) text) font-said ∙ ap (λ (c : flc.Reading). linedBy s (font.says h es) c text) control-said
+  read-lined = ap (λ (f : font.FontReading). linedBy s f (flc.control control) text) font-said ∙ ap (λ (c : flc.ControlReading). linedBy s (font.says h es) c text) control-said
 
   -- 15: "text too long"
   pub text-long : maxText < length text → linedOf s control text ≡ unlined (refusal textTooLong 0)

@@ -10,7 +10,7 @@ use lib.ListN.{length, drop, getD, drop-of-length-le}
 use lib.Seq.{drop-cons}
 use Rattle.ground.specs.Limits.{maxLineWidth}
 use Rattle.subchars.specs.declared.Code.{Code}
-use Rattle.join.specs.Join.{Figure}
+use Rattle.join.specs.Join.{Block}
 use Rattle.join.proofs.Likeness.{like-trans}
 use Rattle.join.specs.Writing.{Like}
 use Rattle.figure.specs.Line.{empty, lineFrom}
@@ -29,10 +29,10 @@ use Rattle.drawing.specs.Steps.{withCharacter, Reached}
 
 module _ (s : List ℕ) (h : Header) (es : List Entry) where
   -- the line l with all that is still to be drawn
-  abbrev with-rest : Figure → List Entry → Figure
+  abbrev with-rest : Block → List Entry → Block
   with-rest l rest = lineFrom (modeOf h) (h .height) l (map (characterOf s) rest)
 
-  one-more : (u : Use) (rest : List Entry) (l : Figure) → with-rest l (withUsed u rest) ≡ with-rest (withCharacter h s u l) rest
+  one-more : (u : Use) (rest : List Entry) (l : Block) → with-rest l (withUsed u rest) ≡ with-rest (withCharacter h s u l) rest
   unfolding lineFrom
   one-more (Used e) rest l = refl
   one-more Nothing rest l = refl
@@ -57,7 +57,7 @@ module _ (s : List ℕ) (h : Header) (es : List Entry) where
     entries-next i u = ap (entriesDrawn es cs k) (drop-cons text i 0 u) ∙ ap (λ (j : ℕ). withUsed (used-at i) (entriesDrawn es cs k (drop j text))) (sym (add-one i))
 
     module _ (area : List ℕ) (n i : ℕ) (toward : Toward area n i) where
-      abbrev line : Figure
+      abbrev line : Block
       line = scratchLine (modeOf h .direction) n area
 
       pub toward-end : length text ≤ i → n ≤ maxLineWidth → Reached h n area (lineOf s h es cs k text)
@@ -73,13 +73,13 @@ module _ (s : List ℕ) (h : Header) (es : List Entry) where
         rest : List Entry
         rest = entriesDrawn es cs k (drop (i + 1) text)
 
-        stepped : Figure
+        stepped : Block
         stepped = withCharacter h s (used c es) line
 
         step : Like (h .height) (with-rest stepped rest) (lineOf s h es cs k text)
         unfolding rest stepped
         step =
-            subst (λ (x : Figure). Like (h .height) x (lineOf s h es cs k text))
+            subst (λ (x : Block). Like (h .height) x (lineOf s h es cs k text))
             (ap (with-rest line) (entries-next i u ∙ ap (λ (z : Code). withUsed (used z es) (entriesDrawn es cs k (drop (i + 1) text))) (sym is)) ∙ one-more (used c es) (entriesDrawn es cs k (drop (i + 1) text)) line)
             toward
 

@@ -17,7 +17,7 @@ use Rattle.subchars.specs.declared.Direction.{Direction}
 use Rattle.subchars.specs.declared.Direction.the-variants.{LeftToRight}
 use Rattle.subchars.specs.declared.Mode.{Mode}
 use Rattle.subchars.specs.Layouts.{printDirection}
-use Rattle.join.specs.Join.{Figure}
+use Rattle.join.specs.Join.{Block}
 use Rattle.figure.specs.declared.DrawAnswer.{DrawAnswer}
 use Rattle.figure.specs.declared.DrawAnswer.the-variants.{Refused}
 use Rattle.figure.specs.Line.{empty, lineFrom, overlapsFrom, outputOf, outputBytes}
@@ -61,17 +61,17 @@ unfoldable pub modeOf : Header → Mode
 modeOf h = record { layout = h .layout; direction = directionOf (h .«print_direction»); hardblank = h .hardblank }
 
 -- A FIGcharacter of a font: row r stands r lines behind its first row line.
-abbrev pub characterOf : List ℕ → Entry → Figure
+abbrev pub characterOf : List ℕ → Entry → Block
 characterOf s e = record { width = e .width; cells = λ r k. getD s (after r s (e .start) + k) 0 }
 
-unfoldable pub joinedInTurn : Header → List ℕ → List Entry → Figure
+unfoldable pub joinedInTurn : Header → List ℕ → List Entry → Block
 joinedInTurn h s es = lineFrom (modeOf h) (h .height) empty (map (characterOf s) es)
 
 -- The line of a text: steps 1 to 4. The font's bytes are s.
 abbrev pub entriesDrawn : List Entry → List Command → ℕ → List ℕ → List Entry
 entriesDrawn characters commands stages text = drawnEntries characters (mappedCodes commands stages (codesOf text))
 
-unfoldable pub lineOf : List ℕ → Header → List Entry → List Command → ℕ → List ℕ → Figure
+unfoldable pub lineOf : List ℕ → Header → List Entry → List Command → ℕ → List ℕ → Block
 lineOf s h characters commands stages text = joinedInTurn h s (entriesDrawn characters commands stages text)
 
 -- The trace of a text: the characters that are drawn, and the overlap at which each is joined.
@@ -86,10 +86,10 @@ traceOf s h characters commands stages text =
 
 -- "Drawing: .. the font's, the control file's, 15, 16, then 9 for the output." A line that is to be put out, or one of the first three.
 pub data Lined : Type 0 where
-  lined : Header → Figure → Lined
+  lined : Header → Block → Lined
   unlined : Refusal → Lined
 
-abbrev pub linedBy : List ℕ → font.Reading → flc.Reading → List ℕ → Lined
+abbrev pub linedBy : List ℕ → font.FontReading → flc.ControlReading → List ℕ → Lined
 linedBy s (font.refuses r) control text = unlined r
 linedBy s (font.says h es) (flc.refuses r) text = unlined r
 linedBy s (font.says h es) (flc.reads cs stages) text = cond (ltb maxText (length text)) (unlined (refusal textTooLong 0)) (lined h (lineOf s h es cs stages text))
@@ -98,9 +98,9 @@ unfoldable pub linedOf : List ℕ → List ℕ → List ℕ → Lined
 linedOf s control text = linedBy s (font.reading s) (flc.control control) text
 
 -- 5. "The output is each row with hardblanks as blanks, then LF; the answer gives the width."
-unfoldable pub answerOf : Lined → ℕ → DrawAnswer
-answerOf (unlined r) room = Refused r
-answerOf (lined h l) room = outputOf (h .height) l room
+unfoldable pub drawAnswer : Lined → ℕ → DrawAnswer
+drawAnswer (unlined r) room = Refused r
+drawAnswer (lined h l) room = outputOf (h .height) l room
 
 -- The bytes at the start of the output: none after a refusal.
 unfoldable pub bytesOf : Lined → ℕ → List ℕ
@@ -110,5 +110,5 @@ bytesOf (lined h l) room = outputBytes (h .hardblank .0) (h .height) l room
 -- "A refusal fills every lent writable area with zeros. A success fills all room behind its answer with zeros." The answer and the output, of the
 -- given room.
 pub record PutOut (l : Lined) (room : ℕ) (answer : DrawAnswer) (output : List ℕ) : Type 0 where
-  pub answers : answer ≡ answerOf l room
+  pub answers : answer ≡ drawAnswer l room
   pub holds : output ≡ padded (bytesOf l room) room

@@ -8,7 +8,7 @@ use lib.ListN.{length, take}
 use Rattle.header.specs.declared.Header.{Header}
 use Rattle.chars.specs.declared.Entry.{Entry}
 use Rattle.font.specs.Font.{says, refuses, reading}
-use Rattle.index.specs.Index.{Room, Lists}
+use Rattle.index.specs.Index.{CharacterRoom, Lists}
 use Rattle.index.specs.Latest.{Latest}
 use Rattle.reader.specs.declared.FontAnswer.{FontAnswer}
 use Rattle.reader.specs.declared.FontAnswer.the-variants as step
@@ -24,7 +24,7 @@ pub record FontHeld (s : List ℕ) (h : Header) (n : ℕ) (codes : List ℤ) (st
   pub characters : List Entry
   pub said : reading s ≡ says h characters
   pub count : n ≡ length characters
-  pub long : Room n codes starts widths
+  pub long : CharacterRoom n codes starts widths
   pub lists : Lists characters codes starts widths
   pub latest : Latest (take n codes) places
 

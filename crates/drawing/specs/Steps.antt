@@ -5,7 +5,7 @@ use Prim.Native.Nat.{ℕ, _+_, _<_, _≤_}
 use mathlib.Core.List.{List}
 use lib.ListN.{length, getD}
 use Rattle.ground.specs.Limits.{maxLineWidth}
-use Rattle.join.specs.Join.{Figure}
+use Rattle.join.specs.Join.{Block}
 use Rattle.join.specs.Writing.{Like}
 use Rattle.figure.specs.Line.{attached}
 use Rattle.figure.specs.Scratch.{scratchLine}
@@ -26,11 +26,11 @@ pub record RowPlaces (s : List ℕ) (start h : ℕ) (places : List ℕ) : Type 0
   pub at : (r : ℕ) → r < h → getD places r 0 ≡ after r s start
 
 -- The line with the character that is used for one code more.
-abbrev pub withCharacter : Header → List ℕ → Use → Figure → Figure
+abbrev pub withCharacter : Header → List ℕ → Use → Block → Block
 withCharacter h s (Used e) line = attached (modeOf h) (h .height) line (characterOf s e)
 withCharacter h s Nothing line = line
 
 -- The scratch area holds a line that is w wide. Of one wider than 1,000 columns no more is known.
-pub record Reached (h : Header) (w : ℕ) (area : List ℕ) (line : Figure) : Type 0 where
+pub record Reached (h : Header) (w : ℕ) (area : List ℕ) (line : Block) : Type 0 where
   pub within : w ≤ maxLineWidth → Like (h .height) (scratchLine (modeOf h .direction) w area) line
   pub beyond : maxLineWidth < w → maxLineWidth < line .width

@@ -26,13 +26,13 @@ ghost use Rattle.ground.specs.Limits.{maxLineWidth, maxHeight, maxCharacters, m
 ghost use Rattle.lines.specs.Lines.{lineEnd, nextStart, after};
 ghost use Rattle.chars.specs.Codes.{code};
 ghost use Rattle.font.specs.Font.{reading};
-ghost use Rattle.index.specs.Index.{Room};
+ghost use Rattle.index.specs.Index.{CharacterRoom};
 ghost use Rattle.reader.specs.Reader.{entriesOf, used};
-ghost use Rattle.join.specs.Join.{Figure};
+ghost use Rattle.join.specs.Join.{Block};
 ghost use Rattle.join.specs.Writing.{RowAfterRow};
 ghost use Rattle.figure.specs.Scratch.{scratchLine};
 ghost use Rattle.flc.specs.Passing.{ControlHeld};
-ghost use Rattle.flc.specs.Filling.{Room as CommandRoom};
+ghost use Rattle.flc.specs.Filling.{CommandRoom};
 ghost use Rattle.drawing.specs.Drawing.{directionOf, modeOf, lineOf, Lined, linedOf, PutOut};
 ghost use Rattle.drawing.specs.Held.{FontHeld, FontHeldBy, filesOf, FilesHeld};
 ghost use Rattle.drawing.specs.Steps.{Standing, RowPlaces, withCharacter, Reached};
@@ -226,7 +226,7 @@ pub fn refuse(r: Refusal, out: &mut [u8]) -> DrawAnswer
 fn put_out(out: &mut [u8], area: &[u8], header: Header, mode: Mode, w: usize) -> DrawAnswer
     requires { ⌜ (header .height ≤ maxHeight) × (minScratch ≤ length (now area)) ⌝ }
     requires { ⌜ mode ≡ modeOf header ⌝ }
-    ensures { λ a. ⌜ ((line : Figure) → Reached header w (now (area .entry)) line → PutOut (Lined.lined header line) (length (now (out .entry))) a (now (out .exit))) ⌝ }
+    ensures { λ a. ⌜ ((line : Block) → Reached header w (now (area .entry)) line → PutOut (Lined.lined header line) (length (now (out .entry))) a (now (out .exit))) ⌝ }
 {
     figure::put_out(out, area, mode, w, header.height)
 }
@@ -338,7 +338,7 @@ fn read_font(
     widths: &mut [usize],
     places: &mut [usize],
 ) -> FontAnswer
-    requires { ⌜ Room maxCharacters (now codes) (now starts) (now widths) ⌝ }
+    requires { ⌜ CharacterRoom maxCharacters (now codes) (now starts) (now widths) ⌝ }
     requires { ⌜ length (now places) ≡ 256 ⌝ }
     ensures { λ r. ⌜ FontHeldBy (now (font .entry)) r (now (codes .exit)) (now (starts .exit)) (now (widths .exit)) (now (places .exit)) ⌝ }
 {
@@ -384,7 +384,7 @@ pub fn read_files(
     lasts: &mut [i32],
     news: &mut [i32],
 ) -> Files
-    requires { ⌜ Room maxCharacters (now codes) (now starts) (now widths) ⌝ }
+    requires { ⌜ CharacterRoom maxCharacters (now codes) (now starts) (now widths) ⌝ }
     requires { ⌜ length (now places) ≡ 256 ⌝ }
     requires { ⌜ CommandRoom maxCommands (now stages) (now firsts) (now lasts) (now news) ⌝ }
     ensures { λ r. ⌜ FilesHeld (now (font .entry)) (now (control .entry)) r (now (codes .exit)) (now (starts .exit)) (now (widths .exit)) (now (places .exit)) (now (stages .exit)) (now (firsts .exit)) (now (lasts .exit)) (now (news .exit)) ⌝ }

@@ -17,12 +17,12 @@ use Rattle.header.specs.declared.Header.{Header}
 use Rattle.chars.specs.declared.Entry.{Entry}
 use Rattle.chars.specs.Codes.{code}
 use Rattle.chars.specs.Chars.{entry}
-use Rattle.font.specs.Font.{Reading, says, refuses, reading}
+use Rattle.font.specs.Font.{FontReading, says, refuses, reading}
 use Rattle.font.proofs.ReadingLaws.{font-read}
 use Rattle.index.specs.Index.{codeOf, startOf, widthOf, Lists}
 use Rattle.reader.specs.declared.FontAnswer.{FontAnswer}
 use Rattle.reader.specs.declared.FontAnswer.the-variants.{Read}
-use Rattle.reader.specs.Reader.{ReadInto, answerOf, entriesOf}
+use Rattle.reader.specs.Reader.{ReadInto, fontAnswer, entriesOf}
 use Rattle.reader.proofs.ReadLaws.{read-says}
 use Rattle.entries.specs.declared.listing.Listed.{Listed}
 use Rattle.entries.specs.Filling.{fontReading, zeroEntry, withZeros, indexOf}
@@ -51,7 +51,7 @@ module _ (es : List Entry) (codes : List ℤ) (starts widths : List ℕ) (l : Li
   listed-all a n h q = q ∙ (λ j. take-length es j ++ zeros-left zeroEntry n (length es) h j)
 
 -- What an answer and the entries say together.
-module _ (m : Reading) (codes : List ℤ) (starts widths : List ℕ) (r : FontAnswer) (i : ReadInto m r codes starts widths) where
+module _ (m : FontReading) (codes : List ℤ) (starts widths : List ℕ) (r : FontAnswer) (i : ReadInto m r codes starts widths) where
   pub read-few : (h : Header) (n : ℕ) → r ≡ Read h n → n ≤ maxCharacters
   read-few h n p = omega (arith, read-says m h n (sym p ∙ i .answer) .count, i .lists .few)
 
@@ -62,7 +62,7 @@ module _ (m : Reading) (codes : List ℤ) (starts widths : List ℕ) (r : FontAn
   read-listed h n es p f =
       let s = read-says m h n (sym p ∙ i .answer) in
       (λ j. record { answer = Read h (s .count j); entries = f (entriesOf m) (s .count) (i .lists) j }) ∙
-      sym (ap (λ (x : Reading). record { answer = answerOf x; entries = indexOf m 513 }) (s .is))
+      sym (ap (λ (x : FontReading). record { answer = fontAnswer x; entries = indexOf m 513 }) (s .is))
 
 -- Whether an index has room, and what it holds.
 module _ (s : List ℕ) (room : ℕ) where
@@ -78,17 +78,17 @@ module _ (s : List ℕ) (room : ℕ) where
   few : (length (entriesOf (fontReading room s)) ≤ maxCharacters) × (length (entriesOf (fontReading room s)) ≤ room)
   few = go (ltb room maxCharacters) refl
     where
-      read : (m : Reading) → reading s ≡ m → length (entriesOf m) ≤ maxCharacters
+      read : (m : FontReading) → reading s ≡ m → length (entriesOf m) ≤ maxCharacters
       read (says h es) p = font-read s h es p .few
       read (refuses r) p = omega arith
 
       go : (b : Bool) → ltb room maxCharacters ≡ b → (length (entriesOf (fontReading room s)) ≤ maxCharacters) × (length (entriesOf (fontReading room s)) ≤ room)
       go true p =
-          let e = ap (λ (m : Reading). length (entriesOf m)) (no-room (ltb-true room maxCharacters p)) in
+          let e = ap (λ (m : FontReading). length (entriesOf m)) (no-room (ltb-true room maxCharacters p)) in
           (omega arith, omega arith)
       go false p =
           let h = ltb-false room maxCharacters p in
-          let e = ap (λ (m : Reading). length (entriesOf m)) (has-room h) in
+          let e = ap (λ (m : FontReading). length (entriesOf m)) (has-room h) in
           (omega (arith, read (reading s) refl), omega (arith, read (reading s) refl))
 
   pub index-length : (n : ℕ) → length (entriesOf (fontReading room s)) ≤ n → length (indexOf (fontReading room s) n) ≡ n

@@ -11,16 +11,16 @@ use borrow.Author.Tests.{ltb-true, ltb-false}
 use Rattle.ground.specs.Refusals.{refusal, areaTooSmall}
 use Rattle.ground.specs.declared.refusals.Refusal.{Refusal}
 use Rattle.ground.specs.Limits.{maxCharacters}
-use Rattle.font.specs.Font.{Reading, says, refuses, reading}
+use Rattle.font.specs.Font.{FontReading, says, refuses, reading}
 use Rattle.font.proofs.ReadingLaws.{font-refusal}
 use Rattle.entries.specs.Filling.{fontReading}
 use Rattle.entries.proofs.FillLaws.{no-room, has-room}
 
-abbrev number-of : Reading → ℕ
+abbrev number-of : FontReading → ℕ
 number-of (says h es) = 0
 number-of (refuses r) = r .number
 
-abbrev place-of : Reading → ℕ
+abbrev place-of : FontReading → ℕ
 place-of (says h es) = 0
 place-of (refuses r) = r .place
 

@@ -5,16 +5,16 @@ use lib.IntN.{pos}
 use Rattle.subchars.specs.declared.Code.{Code}
 use Rattle.chars.specs.declared.Entry.{Entry}
 use Rattle.chars.specs.Codes.{code, sameCode}
-use Rattle.font.specs.Font.{Reading}
+use Rattle.font.specs.Font.{FontReading}
 use Rattle.reader.specs.declared.Use.{Use}
 use Rattle.reader.specs.declared.Use.the-variants.{Used, Nothing}
-use Rattle.reader.specs.Reader.{answerOf}
+use Rattle.reader.specs.Reader.{fontAnswer}
 use Rattle.entries.specs.declared.listing.Listed.{Listed}
 use Rattle.entries.specs.Filling.{indexOf}
 
 -- The answer, and an index of one entry more than a font can have characters.
-abbrev pub listedOf : Reading → Listed
-listedOf m = record { answer = answerOf m; entries = indexOf m 513 }
+abbrev pub listedOf : FontReading → Listed
+listedOf m = record { answer = fontAnswer m; entries = indexOf m 513 }
 
 -- The entry used has the code itself.
 abbrev pub hasCode : Use → Code → Bool

@@ -12,7 +12,7 @@ ghost use lib.ListN.{length};
 ghost use Rattle.ground.specs.Limits.{maxCharacters};
 ghost use Rattle.chars.specs.declared.Entry.{Entry};
 ghost use Rattle.font.specs.Font.{refuses};
-ghost use Rattle.index.specs.Index.{Room, Lists};
+ghost use Rattle.index.specs.Index.{CharacterRoom, Lists};
 ghost use Rattle.entries.specs.Filling.{fontReading, withZeros};
 ghost use Rattle.entries.specs.Steps.{listedOf};
 
@@ -38,7 +38,7 @@ fn list_entries(
     widths: &[usize],
     count: usize,
 ) -> [Entry; LAST + 1]
-    requires { ⌜ Room count (now codes) (now starts) (now widths) × count ≤ maxCharacters ⌝ }
+    requires { ⌜ CharacterRoom count (now codes) (now starts) (now widths) × count ≤ maxCharacters ⌝ }
     ensures { λ r. ⌜ ((es : List Entry) → count ≡ length es → Lists es (now (codes .entry)) (now (starts .entry)) (now (widths .entry)) → r ≡ withZeros es 513) ⌝ }
 {
     let mut entries = ZEROS;

@@ -25,24 +25,24 @@ use Rattle.chars.specs.declared.Entry.{Entry}
 use Rattle.chars.specs.Codes.{requiredCodes}
 use Rattle.chars.specs.Chars.{Ending, finished, stopped, Listing, listing}
 use Rattle.chars.proofs.CodeLaws.{codes-length}
-use Rattle.chars.proofs.EntryLaws.{EachStands, each-further, each-dropped, Sound, listing-sound, Stops, by, listing-stops}
+use Rattle.chars.proofs.EntryLaws.{EachStands, each-further, each-dropped, SoundListing, listing-sound, StopsInside, by, listing-stops}
 use Rattle.chars.proofs.OrderLaws.{InOrder, listing-ordered}
-use Rattle.font.specs.Font.{Reading, says, refuses, format, readingOf, withCharacters, afterHeader, onLines, reading}
+use Rattle.font.specs.Font.{FontReading, says, refuses, format, readingOf, withCharacters, afterHeader, onLines, reading}
 
 -- The number and the place of a refusal, 0 for a font that is read.
-number-of : Reading → ℕ
+number-of : FontReading → ℕ
 number-of (says h es) = 0
 number-of (refuses r) = r .number
 
-place-of : Reading → ℕ
+place-of : FontReading → ℕ
 place-of (says h es) = 0
 place-of (refuses r) = r .place
 
 -- Behind the header a font is refused by 5 to 8, at a place within it or at its end.
-stop-numbers : (size : ℕ) (q : Refusal) → Stops size (stopped q) → (5 ≤ q .number) × (q .number ≤ 8) × (q .place ≤ size)
+stop-numbers : (size : ℕ) (q : Refusal) → StopsInside size (stopped q) → (5 ≤ q .number) × (q .number ≤ 8) × (q .place ≤ size)
 stop-numbers size q (by r l u p) = (l, u, p)
 
-ended-numbers : (h : Header) (size : ℕ) (en : Ending) (es : List Entry) (r : Refusal) → Stops size en → readingOf h en es ≡ refuses r → (5 ≤ r .number) × (r .number ≤ 8) × (r .place ≤ size)
+ended-numbers : (h : Header) (size : ℕ) (en : Ending) (es : List Entry) (r : Refusal) → StopsInside size en → readingOf h en es ≡ refuses r → (5 ≤ r .number) × (r .number ≤ 8) × (r .place ≤ size)
 unfolding number-of place-of
 ended-numbers h size finished es r s e = clash (cc)
 ended-numbers h size (stopped q) es r s e =
@@ -170,7 +170,7 @@ module _ (s : List ℕ) where
   lines-read size [] h es e = clash (cc)
   lines-read size (l ∷ ls) h es e = go (readHeader (l .text)) e
     where
-      there : (g : Header) → Sound (format g) 0 (drop (g .«comment_lines») ls) (listing (format g) size requiredCodes 0 (drop (g .«comment_lines») ls))
+      there : (g : Header) → SoundListing (format g) 0 (drop (g .«comment_lines») ls) (listing (format g) size requiredCodes 0 (drop (g .«comment_lines») ls))
       there g = listing-sound (format g) size requiredCodes 0 (drop (g .«comment_lines») ls) (omega (arith, codes-length))
 
       said : (g : Header) (b : Bool) → cond b (withCharacters g (listing (format g) size requiredCodes 0 (drop (g .«comment_lines») ls))) (refuses (refusal missingLine size)) ≡ says h es →

@@ -18,7 +18,7 @@ use Rattle.font.specs.declared.SkipStep.{SkipStep}
 use Rattle.font.specs.declared.SkipStep.the-variants.{Skipped, TooFew}
 use Rattle.font.specs.declared.Opening.{Opening}
 use Rattle.font.specs.declared.Opening.the-variants.{Open, Closed}
-use Rattle.font.specs.Font.{Reading, refuses, format, withCharacters}
+use Rattle.font.specs.Font.{FontReading, refuses, format, withCharacters}
 
 -- n lines further.
 unfoldable pub skipAt : List ℕ → ℕ → ℕ → SkipStep
@@ -43,6 +43,6 @@ unfoldable pub openAt : List ℕ → Opening
 openAt s = cond (ltb maxFontLength (length s)) (Closed (refusal fontTooLong 0)) (firstLine s)
 
 -- What is read from where the characters start.
-abbrev pub readFrom : List ℕ → Opening → Reading
+abbrev pub readFrom : List ℕ → Opening → FontReading
 readFrom s (Open h at) = withCharacters h (listing (format h) (length s) requiredCodes 0 (linesFrom s at))
 readFrom s (Closed r) = refuses r

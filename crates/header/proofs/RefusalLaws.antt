@@ -20,21 +20,21 @@ use Rattle.header.specs.declared.ParameterStep.the-variants.{All, TooFew
 use Rattle.header.specs.declared.Header.{Header}
 use Rattle.header.specs.declared.HeaderStep.{HeaderStep}
 use Rattle.header.specs.declared.HeaderStep.the-variants.{Good, Refused}
-use Rattle.subchars.specs.Pair.{isHardblank}
-use Rattle.header.specs.Header.{parameterNumbers, parameters, legal, header, refused, headerWith, headerOf, afterHardblank, afterSignature, signature, readHeader}
+use Rattle.subchars.specs.Pair.{legalHardblank}
+use Rattle.header.specs.Header.{parameterNumbers, parameters, legalParameters, header, refused, headerWith, headerOf, afterHardblank, afterSignature, fontSignature, readHeader}
 use Rattle.header.proofs.ParameterLaws.{too-few, High, high}
 
 -- 3: "hardblank absent, or blank, CR, LF, NUL", of what follows flf2a.
 pub data BadHardblank : List ℕ → Type 0 where
   absent : BadHardblank []
-  unfit : {h : ℕ} {rest : List ℕ} → isHardblank h ≡ false → BadHardblank (h ∷ rest)
+  unfit : {h : ℕ} {rest : List ℕ} → legalHardblank h ≡ false → BadHardblank (h ∷ rest)
 
 -- 4: "no blank or tab after the hardblank, under five numbers, or a value out of range", of what follows the hardblank.
 pub data BadParameters : List ℕ → Type 0 where
   no-more : BadParameters []
   no-blank : {x : ℕ} {rest : List ℕ} → isBlank x ≡ false → BadParameters (x ∷ rest)
   under-five : {x : ℕ} {rest : List ℕ} → isBlank x ≡ true → length (parameterNumbers rest) < 5 → BadParameters (x ∷ rest)
-  out-of-range : {x : ℕ} {rest : List ℕ} (p : Parameters) → isBlank x ≡ true → parameters (parameterNumbers rest) ≡ All p → legal p ≡ false → BadParameters (x ∷ rest)
+  out-of-range : {x : ℕ} {rest : List ℕ} (p : Parameters) → isBlank x ≡ true → parameters (parameterNumbers rest) ≡ All p → legalParameters p ≡ false → BadParameters (x ∷ rest)
 
 -- The number of an answer, 0 for a header that is read.
 numberOf : HeaderStep → ℕ
@@ -64,12 +64,12 @@ unfolding afterHardblank headerOf header
 after-is h [] = bad no-more refl
 after-is h (x ∷ rest) = at-blank (isBlank x) refl
   where
-    in-range : (p : Parameters) → isBlank x ≡ true → parameters (parameterNumbers rest) ≡ All p → (l : Bool) → legal p ≡ l → After (x ∷ rest) (cond l (Good (header h p)) (refused badParameters))
+    in-range : (p : Parameters) → isBlank x ≡ true → parameters (parameterNumbers rest) ≡ All p → (l : Bool) → legalParameters p ≡ l → After (x ∷ rest) (cond l (Good (header h p)) (refused badParameters))
     in-range p e q true l = fine (header h p) refl (high p l)
     in-range p e q false l = bad (out-of-range p e q l) refl
 
     named : isBlank x ≡ true → (s : ParameterStep) → parameters (parameterNumbers rest) ≡ s → After (x ∷ rest) (headerWith h s)
-    named e (All p) q = in-range p e q (legal p) refl
+    named e (All p) q = in-range p e q (legalParameters p) refl
     named e TooFew q = bad (under-five e (few-numbers (parameterNumbers rest) q)) refl
 
     at-blank : (b : Bool) → isBlank x ≡ b → After (x ∷ rest) (cond b (headerWith h (parameters (parameterNumbers rest))) (refused badParameters))
@@ -86,14 +86,14 @@ bad-parameters h (x ∷ rest) (out-of-range p e q l) = simp e (ap (headerWith h)
 -- What an answer to what follows flf2a is for.
 data Signed (u : List ℕ) (r : HeaderStep) : Type 0 where
   unblank : BadHardblank u → r ≡ refused badHardblank → Signed u r
-  blank : (h : ℕ) (rest : List ℕ) → u ≡ h ∷ rest → isHardblank h ≡ true → After rest r → Signed u r
+  blank : (h : ℕ) (rest : List ℕ) → u ≡ h ∷ rest → legalHardblank h ≡ true → After rest r → Signed u r
 
 signed-is : (u : List ℕ) → Signed u (afterSignature u)
 unfolding afterSignature
 signed-is [] = unblank absent refl
-signed-is (h ∷ rest) = at-hardblank (isHardblank h) refl
+signed-is (h ∷ rest) = at-hardblank (legalHardblank h) refl
   where
-    at-hardblank : (b : Bool) → isHardblank h ≡ b → Signed (h ∷ rest) (cond b (afterHardblank (record { 0 = h }) rest) (refused badHardblank))
+    at-hardblank : (b : Bool) → legalHardblank h ≡ b → Signed (h ∷ rest) (cond b (afterHardblank (record { 0 = h }) rest) (refused badHardblank))
     at-hardblank true e = blank h rest refl e (after-is (record { 0 = h }) rest)
     at-hardblank false e = unblank (unfit e) refl
 
@@ -102,7 +102,7 @@ unfolding afterSignature
 bad-hardblank [] absent = refl
 bad-hardblank (h ∷ rest) (unfit e) = simp e
 
-good-hardblank : (u : List ℕ) (h : ℕ) (rest : List ℕ) → u ≡ h ∷ rest → isHardblank h ≡ true → BadParameters rest → afterSignature u ≡ refused badParameters
+good-hardblank : (u : List ℕ) (h : ℕ) (rest : List ℕ) → u ≡ h ∷ rest → legalHardblank h ≡ true → BadParameters rest → afterSignature u ≡ refused badParameters
 unfolding afterSignature
 good-hardblank u h rest e b p = ap afterSignature e ∙ simp b (bad-parameters (record { 0 = h }) rest p)
 
@@ -112,11 +112,11 @@ unfolding numberOf
 differ r s e f = absurd (f (ap numberOf e))
 
 module _ (t : List ℕ) where
-  with-signature : begins signature t ≡ true → readHeader t ≡ afterSignature (drop 5 t)
+  with-signature : begins fontSignature t ≡ true → readHeader t ≡ afterSignature (drop 5 t)
   unfolding readHeader
   with-signature e = simp e
 
-  without-signature : begins signature t ≡ false → readHeader t ≡ refused noSignature
+  without-signature : begins fontSignature t ≡ false → readHeader t ≡ refused noSignature
   unfolding readHeader
   without-signature e = simp e
 
@@ -128,10 +128,10 @@ module _ (t : List ℕ) where
   signed-not-2 u r (blank h rest e b (bad p g)) q = differ _ _ (sym g ∙ q) λ n. omega arith
 
   -- 2: "first line does not begin with flf2a"
-  pub refused-2 : readHeader t ≡ refused noSignature ↔ begins signature t ≡ false
-  refused-2 = (λ q. only (begins signature t) refl q, without-signature)
+  pub refused-2 : readHeader t ≡ refused noSignature ↔ begins fontSignature t ≡ false
+  refused-2 = (λ q. only (begins fontSignature t) refl q, without-signature)
     where
-      only : (b : Bool) → begins signature t ≡ b → readHeader t ≡ refused noSignature → begins signature t ≡ false
+      only : (b : Bool) → begins fontSignature t ≡ b → readHeader t ≡ refused noSignature → begins fontSignature t ≡ false
       only true e q = absurd (signed-not-2 (drop 5 t) (afterSignature (drop 5 t)) (signed-is (drop 5 t)) (sym (with-signature e) ∙ q))
       only false e q = e
 
@@ -142,17 +142,17 @@ module _ (t : List ℕ) where
   signed-3 u r (blank h rest e b (bad p g)) q = differ _ _ (sym g ∙ q) λ n. omega arith
 
   -- 3, where the line begins with flf2a
-  pub refused-3 : readHeader t ≡ refused badHardblank ↔ ((begins signature t ≡ true) × BadHardblank (drop 5 t))
+  pub refused-3 : readHeader t ≡ refused badHardblank ↔ ((begins fontSignature t ≡ true) × BadHardblank (drop 5 t))
   unfolding numberOf
-  refused-3 = (λ q. only (begins signature t) refl q, λ w. with-signature (w .0) ∙ bad-hardblank (drop 5 t) (w .1))
+  refused-3 = (λ q. only (begins fontSignature t) refl q, λ w. with-signature (w .0) ∙ bad-hardblank (drop 5 t) (w .1))
     where
-      only : (b : Bool) → begins signature t ≡ b → readHeader t ≡ refused badHardblank → (begins signature t ≡ true) × BadHardblank (drop 5 t)
+      only : (b : Bool) → begins fontSignature t ≡ b → readHeader t ≡ refused badHardblank → (begins fontSignature t ≡ true) × BadHardblank (drop 5 t)
       only true e q = (e, signed-3 (drop 5 t) (afterSignature (drop 5 t)) (signed-is (drop 5 t)) (sym (with-signature e) ∙ q))
       only false e q = differ _ _ (sym (without-signature e) ∙ q) λ n. omega arith
 
   -- the hardblank is good, and what follows it is not
   abbrev pub Followed : List ℕ → Type 0
-  Followed u = (h : ℕ) × (rest : List ℕ) × (u ≡ h ∷ rest) × (isHardblank h ≡ true) × BadParameters rest
+  Followed u = (h : ℕ) × (rest : List ℕ) × (u ≡ h ∷ rest) × (legalHardblank h ≡ true) × BadParameters rest
 
   signed-4 : (u : List ℕ) (r : HeaderStep) → Signed u r → r ≡ refused badParameters → Followed u
   unfolding numberOf
@@ -161,14 +161,14 @@ module _ (t : List ℕ) where
   signed-4 u r (blank h rest e b (bad p g)) q = (h, rest, e, b, p)
 
   -- 4, where the line begins with flf2a and a hardblank
-  pub refused-4 : readHeader t ≡ refused badParameters ↔ ((begins signature t ≡ true) × Followed (drop 5 t))
+  pub refused-4 : readHeader t ≡ refused badParameters ↔ ((begins fontSignature t ≡ true) × Followed (drop 5 t))
   unfolding numberOf
   refused-4 = (
-    λ q. only (begins signature t) refl q,
+    λ q. only (begins fontSignature t) refl q,
     λ w. with-signature (w .0) ∙ good-hardblank (drop 5 t) (w .1 .0) (w .1 .1) (w .1 .2) (w .1 .3) (w .1 .4),
   )
     where
-      only : (b : Bool) → begins signature t ≡ b → readHeader t ≡ refused badParameters → (begins signature t ≡ true) × Followed (drop 5 t)
+      only : (b : Bool) → begins fontSignature t ≡ b → readHeader t ≡ refused badParameters → (begins fontSignature t ≡ true) × Followed (drop 5 t)
       only true e q = (e, signed-4 (drop 5 t) (afterSignature (drop 5 t)) (signed-is (drop 5 t)) (sym (with-signature e) ∙ q))
       only false e q = differ _ _ (sym (without-signature e) ∙ q) λ n. omega arith
 
@@ -191,9 +191,9 @@ module _ (t : List ℕ) where
   signed-numbers u x r (blank h rest e b (bad p g)) q = known badParameters r (omega arith) (omega arith) (sym g ∙ q)
 
   pub header-refusal : (r : Refusal) → readHeader t ≡ Refused r → HeaderRefusal r
-  header-refusal r q = go (begins signature t) refl
+  header-refusal r q = go (begins fontSignature t) refl
     where
-      go : (b : Bool) → begins signature t ≡ b → HeaderRefusal r
+      go : (b : Bool) → begins fontSignature t ≡ b → HeaderRefusal r
       go true e = signed-numbers (drop 5 t) (afterSignature (drop 5 t)) r (signed-is (drop 5 t)) (sym (with-signature e) ∙ q)
       go false e = known noSignature r (omega arith) (omega arith) (sym (without-signature e) ∙ q)
 
@@ -204,8 +204,8 @@ module _ (t : List ℕ) where
   signed-high u x y (blank h rest e b (bad p g)) q = clash (cc)
 
   pub header-high : (y : Header) → readHeader t ≡ Good y → High (y .height)
-  header-high y q = go (begins signature t) refl
+  header-high y q = go (begins fontSignature t) refl
     where
-      go : (b : Bool) → begins signature t ≡ b → High (y .height)
+      go : (b : Bool) → begins fontSignature t ≡ b → High (y .height)
       go true e = signed-high (drop 5 t) (afterSignature (drop 5 t)) y (signed-is (drop 5 t)) (sym (with-signature e) ∙ q)
       go false e = let r = sym (without-signature e) ∙ q in clash (cc)

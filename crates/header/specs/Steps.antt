@@ -17,8 +17,8 @@ use Rattle.header.specs.declared.WordStep.{WordStep}
 use Rattle.header.specs.declared.WordStep.the-variants.{Word, NoWord}
 
 -- The numbers that are held: the first of the values.
-abbrev pub listed : Numbers → List ℤ
-listed ns = take (ns .count) (ns .values)
+abbrev pub numbersHeld : Numbers → List ℤ
+numbersHeld ns = take (ns .count) (ns .values)
 
 abbrev pub notNegative : Parameter → Bool
 notNegative Missing = true

@@ -88,7 +88,7 @@ pub fn read_header(t: &[u8]) -> HeaderStep
         return refusal(refusals::BAD_HARDBLANK);
     }
     let h = t[5];
-    if !subchars::is_hardblank(SubCharacter(h)) {
+    if !subchars::legal_hardblank(SubCharacter(h)) {
         return refusal(refusals::BAD_HARDBLANK);
     }
     if t.len() <= 6 {

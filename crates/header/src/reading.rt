@@ -22,8 +22,8 @@ ghost use lib.Dec.{T};
 ghost use lib.IntN.{natAbs};
 ghost use lib.ListN.{length};
 ghost use lib.Signed.{nonNeg};
-ghost use Rattle.header.specs.Header.{parameterNumbers, parameter, parameters, within, allowed, legal, given, layoutOf, header, headerOf};
-ghost use Rattle.header.specs.Steps.{listed, notNegative, wordStep};
+ghost use Rattle.header.specs.Header.{parameterNumbers, parameter, parameters, within, allowed, legalParameters, given, layoutOf, header, headerOf};
+ghost use Rattle.header.specs.Steps.{numbersHeld, notNegative, wordStep};
 
 // How many parameters there are, how many of them are required, and their ranges.
 const MAX_PARAMETERS: usize = 8;
@@ -66,7 +66,7 @@ fn next_number(t: &[u8], at: usize) -> WordStep
 
 // The numbers at the start of a text, to the first word that is none, and at most eight.
 pub fn find_numbers(t: &[u8]) -> Numbers
-    ensures { λ r. ⌜ listed r ≡ parameterNumbers (now (t .entry)) ⌝ }
+    ensures { λ r. ⌜ numbersHeld r ≡ parameterNumbers (now (t .entry)) ⌝ }
 {
     let mut values = [0i32; 8];
     let mut n: usize = 0;
@@ -89,7 +89,7 @@ pub fn find_numbers(t: &[u8]) -> Numbers
 // The k-th of the numbers, where there is one.
 fn parameter_at(ns: Numbers, k: usize) -> Parameter
     requires { ⌜ k < 8 ⌝ }
-    ensures { λ r. ⌜ r ≡ parameter k (listed ns) ⌝ }
+    ensures { λ r. ⌜ r ≡ parameter k (numbersHeld ns) ⌝ }
 {
     let v = ns.values;
     if k < ns.count {
@@ -100,7 +100,7 @@ fn parameter_at(ns: Numbers, k: usize) -> Parameter
 
 // The parameters by their names.
 fn parameters_of(ns: Numbers) -> ParameterStep
-    ensures { λ r. ⌜ r ≡ parameters (listed ns) ⌝ }
+    ensures { λ r. ⌜ r ≡ parameters (numbersHeld ns) ⌝ }
 {
     if ns.count < REQUIRED_PARAMETERS {
         return ParameterStep::TooFew;
@@ -135,7 +135,7 @@ fn is_allowed(p: Parameter, high: i32) -> bool
 }
 
 fn is_legal(p: Parameters) -> bool
-    ensures { λ r. ⌜ r ≡ legal p ⌝ }
+    ensures { λ r. ⌜ r ≡ legalParameters p ⌝ }
 {
     let direction = p.print_direction;
     let full = p.full_layout;
@@ -182,7 +182,7 @@ fn layout_of(old: i32, full: Given) -> Layout
 
 // The header of legal parameters.
 fn legal_header(hardblank: SubCharacter, p: Parameters) -> Header
-    requires { ⌜ legal p ≡ true ⌝ }
+    requires { ⌜ legalParameters p ≡ true ⌝ }
     ensures { λ r. ⌜ r ≡ header hardblank p ⌝ }
 {
     let direction = p.print_direction;
@@ -205,7 +205,7 @@ fn legal_header(hardblank: SubCharacter, p: Parameters) -> Header
 
 // The header that the numbers of a line make.
 pub fn header_of(hardblank: SubCharacter, ns: Numbers) -> HeaderStep
-    ensures { λ r. ⌜ r ≡ headerOf hardblank (listed ns) ⌝ }
+    ensures { λ r. ⌜ r ≡ headerOf hardblank (numbersHeld ns) ⌝ }
 {
     match parameters_of(ns) {
         ParameterStep::All(p) => {

@@ -27,7 +27,7 @@ use Rattle.chars.specs.Steps.{listedAt, tagAt, blankFrom, taggedThen, taggedAt,
 use Rattle.chars.proofs.CodeLaws.{none-required}
 use Rattle.chars.proofs.ListingLaws.{rest, following, rest-step}
 use Rattle.index.specs.declared.Filling.the-variants.{Filled, Failed}
-use Rattle.index.specs.Index.{listingAt, endedBy, Room, Indexed, codeOf, startOf, widthOf}
+use Rattle.index.specs.Index.{listingAt, endedBy, CharacterRoom, Indexed, codeOf, startOf, widthOf}
 
 -- A character is listed only where there is room.
 pub listed-room : (f : Format) (s : List ℕ) (at n : ℕ) (e : Entry) (next : ℕ) → Listed e next ≡ nextAt f s at n → n < maxCharacters
@@ -91,7 +91,7 @@ module _ (f : Format) (s : List ℕ) (from : ℕ) (codes₀ : List ℤ) (starts�
         widths-are = refl;
       }
 
-  module _ (big : Room maxCharacters codes₀ starts₀ widths₀) (codes : List ℤ) (starts widths : List ℕ) (at n : ℕ) (h : Held f s from codes₀ starts₀ widths₀ codes starts widths at n) where
+  module _ (big : CharacterRoom maxCharacters codes₀ starts₀ widths₀) (codes : List ℤ) (starts widths : List ℕ) (at n : ℕ) (h : Held f s from codes₀ starts₀ widths₀ codes starts widths at n) where
     step-whole : (e : Entry) (next : ℕ) → Listed e next ≡ nextAt f s at n → listingAt f s from ≡ before (h .done ++ (e ∷ [])) (rest f s (n + 1) next)
     step-whole e next p =
         h .whole ∙ ap (before (h .done)) (rest-step f s n at ∙ sym (ap (following f s n) p)) ∙

@@ -7,7 +7,7 @@ use rows::Format;
 use subchars::Code;
 ghost use mathlib.Core.Path.{_≡_};
 ghost use Rattle.ground.specs.Limits.{maxCharacters};
-ghost use Rattle.index.specs.Index.{listingAt, Room, Indexed};
+ghost use Rattle.index.specs.Index.{listingAt, CharacterRoom, Indexed};
 ghost use Rattle.index.specs.LookUp.{lastAt, lookUp};
 
 // How many characters are in the index, or why they could not be read.
@@ -31,7 +31,7 @@ pub fn fill(
     starts: &mut [usize],
     widths: &mut [usize],
 ) -> Filling
-    requires { ⌜ Room maxCharacters (now codes) (now starts) (now widths) ⌝ }
+    requires { ⌜ CharacterRoom maxCharacters (now codes) (now starts) (now widths) ⌝ }
     ensures { λ r. ⌜ Indexed (listingAt f (now (s .entry)) from) r (now (codes .exit)) (now (starts .exit)) (now (widths .exit)) ⌝ }
 {
     let mut at = from;

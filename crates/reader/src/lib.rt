@@ -13,10 +13,10 @@ ghost use mathlib.Core.List.{List};
 ghost use lib.ListN.{length, take};
 ghost use Rattle.ground.specs.Limits.{maxCharacters};
 ghost use Rattle.chars.specs.declared.Entry.{Entry};
-ghost use Rattle.index.specs.Index.{Room, Lists};
+ghost use Rattle.index.specs.Index.{CharacterRoom, Lists};
 ghost use Rattle.index.specs.Latest.{Latest};
 ghost use Rattle.font.specs.Font.{format, reading};
-ghost use Rattle.reader.specs.Reader.{ReadInto, Behind, Within, atFound, used};
+ghost use Rattle.reader.specs.Reader.{ReadInto, Behind, FoundBelow, atFound, used};
 
 // What reading a font answers: its header, with the layout, and how many characters it has; or a refusal.
 pub enum FontAnswer {
@@ -51,7 +51,7 @@ fn read_characters(
     starts: &mut [usize],
     widths: &mut [usize],
 ) -> FontAnswer
-    requires { ⌜ Room maxCharacters (now codes) (now starts) (now widths) ⌝ }
+    requires { ⌜ CharacterRoom maxCharacters (now codes) (now starts) (now widths) ⌝ }
     ensures { λ r. ⌜ Behind h (now (font .entry)) at r (now (codes .exit)) (now (starts .exit)) (now (widths .exit)) ⌝ }
 {
     let f = format_of(h);
@@ -71,7 +71,7 @@ pub fn read_lists(
     starts: &mut [usize],
     widths: &mut [usize],
 ) -> FontAnswer
-    requires { ⌜ Room maxCharacters (now codes) (now starts) (now widths) ⌝ }
+    requires { ⌜ CharacterRoom maxCharacters (now codes) (now starts) (now widths) ⌝ }
     ensures { λ r. ⌜ ReadInto (reading (now (font .entry))) r (now (codes .exit)) (now (starts .exit)) (now (widths .exit)) ⌝ }
 {
     match font::open_font(font) {
@@ -82,8 +82,8 @@ pub fn read_lists(
 
 // What the lists hold at the place that look-up found.
 fn entry_at(codes: &[i32], starts: &[usize], widths: &[usize], count: usize, found: Found) -> Use
-    requires { ⌜ Room count (now codes) (now starts) (now widths) ⌝ }
-    requires { ⌜ Within count found ⌝ }
+    requires { ⌜ CharacterRoom count (now codes) (now starts) (now widths) ⌝ }
+    requires { ⌜ FoundBelow count found ⌝ }
     ensures { λ r. ⌜ ((es : List Entry) → count ≡ length es → Lists es (now (codes .entry)) (now (starts .entry)) (now (widths .entry)) → r ≡ atFound found es) ⌝ }
 {
     match found {
@@ -104,7 +104,7 @@ pub fn find_entry(
     count: usize,
     code: Code,
 ) -> Use
-    requires { ⌜ Room count (now codes) (now starts) (now widths) ⌝ }
+    requires { ⌜ CharacterRoom count (now codes) (now starts) (now widths) ⌝ }
     ensures { λ r. ⌜ ((es : List Entry) → count ≡ length es → Lists es (now (codes .entry)) (now (starts .entry)) (now (widths .entry)) → r ≡ used code es) ⌝ }
 {
     let found = index::look_up(&codes[..count], code);
@@ -120,7 +120,7 @@ pub fn find_known(
     places: &[usize],
     code: Code,
 ) -> Use
-    requires { ⌜ Room count (now codes) (now starts) (now widths) ⌝ }
+    requires { ⌜ CharacterRoom count (now codes) (now starts) (now widths) ⌝ }
     requires { ⌜ Latest (take count (now codes)) (now places) ⌝ }
     ensures { λ r. ⌜ ((es : List Entry) → count ≡ length es → Lists es (now (codes .entry)) (now (starts .entry)) (now (widths .entry)) → r ≡ used code es) ⌝ }
 {

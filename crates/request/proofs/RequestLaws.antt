@@ -18,7 +18,7 @@ use Rattle.subchars.specs.declared.Code.{Code}
 use Rattle.lines.specs.Lines.{after}
 use Rattle.header.specs.declared.Header.{Header}
 use Rattle.chars.specs.declared.Entry.{Entry}
-use Rattle.font.specs.Font.{Reading, says, refuses, reading}
+use Rattle.font.specs.Font.{FontReading, says, refuses, reading}
 use Rattle.font.proofs.ReadingLaws.{font-refusal}
 use Rattle.index.specs.Index.{Lists}
 use Rattle.reader.specs.declared.FontAnswer.{FontAnswer}
@@ -35,7 +35,7 @@ use Rattle.request.specs.Request.{inFont, sought, badRequest, rowOfSough
 use Rattle.request.proofs.RowLaws.{used-stands}
 
 -- A code is sought in the lists that were read.
-module _ (m : Reading) (c : Code) (r : FontAnswer) (codes : List ℤ) (starts widths : List ℕ) (i : ReadInto m r codes starts widths) where
+module _ (m : FontReading) (c : Code) (r : FontAnswer) (codes : List ℤ) (starts widths : List ℕ) (i : ReadInto m r codes starts widths) where
   module _ (h : Header) (n : ℕ) (p : r ≡ font-is.Read h n) where
     pub few : n ≤ maxCharacters
     few = omega (arith, read-says m h n (sym p ∙ i .answer) .count, i .lists .few)
@@ -75,8 +75,8 @@ module _ (s : List ℕ) (c : Code) (r : ℕ) where
     row-high h x q =
         q ∙ sym (ap (λ (b : Bool). cond b (Row (after r s (e .start)) (e .width)) badRequest) (le-ltb r height h)) ∙ by-sought (sought-is.Found height e) f
 
-  pub row-missing : sought-is.Missing ≡ sought c (reading s) → (x : Requested) → x ≡ badRequest → x ≡ rowRequest s c r
-  row-missing f x q = q ∙ by-sought sought-is.Missing f
+  pub row-missing : sought-is.NoDrawing ≡ sought c (reading s) → (x : Requested) → x ≡ badRequest → x ≡ rowRequest s c r
+  row-missing f x q = q ∙ by-sought sought-is.NoDrawing f
 
   pub row-unread : (q : Refusal) → sought-is.Unread q ≡ sought c (reading s) → Refused q ≡ rowRequest s c r
   row-unread q f = by-sought (sought-is.Unread q) f
@@ -117,7 +117,7 @@ module _ (s : List ℕ) (c : Code) (r : ℕ) where
       by h es m (Used e) u = tall h es m e u (ltb r (h .height)) refl
       by h es m Nothing u = shape refl (missing h es m u)
 
-      go : (m : Reading) → reading s ≡ m → Answer (rowOfSought s r (sought c m))
+      go : (m : FontReading) → reading s ≡ m → Answer (rowOfSought s r (sought c m))
       go (says h es) m = by h es m (used c es) refl
       go (refuses q) m = of-font q refl m
 
@@ -136,7 +136,7 @@ module _ (s : List ℕ) (c : Code) (r : ℕ) where
   pub row-if : (p w : ℕ) → Given p w → rowRequest s c r ≡ Row p w
   unfolding rowRequest sought
   row-if p w g =
-      ap (λ (m : Reading). rowOfSought s r (sought c m)) (g .said) ∙
+      ap (λ (m : FontReading). rowOfSought s r (sought c m)) (g .said) ∙
       ap (λ (u : Use). rowOfSought s r (inFont (g .header .height) u)) (g .is-used) ∙
       ap (λ (b : Bool). cond b (Row (after r s (g .entry .start)) (g .entry .width)) badRequest) (lt-ltb r (g .header .height) (g .below)) ∙
       ap (λ (j : ℕ). Row j (g .entry .width)) (sym (g .place)) ∙
@@ -152,8 +152,8 @@ module _ (s : List ℕ) (c : Code) (r : ℕ) where
   -- 17, exactly then, at 0
   bad-shape : BadRequest → rowRequest s c r ≡ badRequest
   unfolding rowRequest sought
-  bad-shape (missing h es m u) = ap (λ (x : Reading). rowOfSought s r (sought c x)) m ∙ ap (λ (x : Use). rowOfSought s r (inFont (h .height) x)) u
-  bad-shape (high h es m k) = ap (λ (x : Reading). rowOfSought s r (sought c x)) m ∙ go (used c es)
+  bad-shape (missing h es m u) = ap (λ (x : FontReading). rowOfSought s r (sought c x)) m ∙ ap (λ (x : Use). rowOfSought s r (inFont (h .height) x)) u
+  bad-shape (high h es m k) = ap (λ (x : FontReading). rowOfSought s r (sought c x)) m ∙ go (used c es)
     where
       go : (u : Use) → rowOfSought s r (inFont (h .height) u) ≡ badRequest
       go (Used e) = ap (λ (b : Bool). cond b (Row (after r s (e .start)) (e .width)) badRequest) (le-ltb r (h .height) k)
@@ -171,7 +171,7 @@ module _ (s : List ℕ) (c : Code) (r : ℕ) where
   -- the font's own refusals, exactly those of the font
   pub refused-font : (q : Refusal) → q .number ≤ 8 → rowRequest s c r ≡ Refused q ↔ reading s ≡ refuses q
   unfolding rowRequest sought number-of
-  refused-font q h = (λ e. to e answer, λ m. ap (λ (x : Reading). rowOfSought s r (sought c x)) m)
+  refused-font q h = (λ e. to e answer, λ m. ap (λ (x : FontReading). rowOfSought s r (sought c x)) m)
     where
       to : rowRequest s c r ≡ Refused q → Answer (rowRequest s c r) → reading s ≡ refuses q
       to e (gives a b p g) = clash (cc)

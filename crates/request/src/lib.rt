@@ -16,7 +16,7 @@ ghost use Rattle.request.specs.Request.{sought, badRequest, rowRequest};
 // The character that a font has for a code, with the font's height, or the font's refusal.
 pub enum Sought {
     Found { height: usize, entry: Entry },
-    Missing,
+    NoDrawing,
     Unread(Refusal),
 }
 
@@ -63,7 +63,7 @@ pub fn seek(font: &[u8], code: Code) -> Sought
             let height = header.height;
             match reader::find_entry(&codes, &starts, &widths, count, code) {
                 Use::Used(entry) => Sought::Found { height, entry },
-                Use::Nothing => Sought::Missing,
+                Use::Nothing => Sought::NoDrawing,
             }
         }
         FontAnswer::Refused(r) => Sought::Unread(r),
@@ -93,7 +93,7 @@ pub fn request(font: &[u8], code: Code, row: usize) -> Requested
             }
             bad_request()
         }
-        Sought::Missing => bad_request(),
+        Sought::NoDrawing => bad_request(),
         Sought::Unread(r) => Requested::Refused(r),
     }
 }

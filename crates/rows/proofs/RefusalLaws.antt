@@ -16,7 +16,7 @@ use Rattle.lines.proofs.StartLaws.{Starting, start-first, start-rest}
 use Rattle.rows.specs.declared.Format.{Format}
 use Rattle.rows.specs.declared.RowStep.{RowStep}
 use Rattle.rows.specs.declared.RowStep.the-variants.{Width, BadRow}
-use Rattle.rows.specs.Rows.{rowOf, Rows, read, refused, hasWidth, rowsOn, otherRows, character, lineCount}
+use Rattle.rows.specs.Rows.{rowOf, Rows, read, refused, hasWidth, rowsOn, otherRows, characterRows, lineCount}
 use Rattle.rows.proofs.LineLaws.{BadLine, bad-exactly, BadRowLine, width-exactly}
 use Rattle.rows.proofs.RowLaws.{rowsHave}
 
@@ -59,8 +59,8 @@ module _ (f : Format) (size : ℕ) where
   is-bad (suc k) w p (l ∷ ls) (later q b) = simp q (is-bad k w p ls b)
 
   -- 6: "bad row", at the "start of that line"
-  pub refused-6 : (p : ℕ) (ls : List TextLine) → character f size ls ≡ refused (refusal badRow p) ↔ CharacterBad f p ls
-  unfolding character number-of place-of
+  pub refused-6 : (p : ℕ) (ls : List TextLine) → characterRows f size ls ≡ refused (refusal badRow p) ↔ CharacterBad f p ls
+  unfolding characterRows number-of place-of
   refused-6 p ls = (to ls, from ls)
     where
       split : (l : TextLine) (ls : List TextLine) (r : RowStep) → rowOf f (l .text) ≡ r → otherRows f size (l .start) r ls ≡ refused (refusal badRow p) → CharacterBad f p (l ∷ ls)
@@ -70,11 +70,11 @@ module _ (f : Format) (size : ℕ) where
       five : _≡_ {A = ℕ} 5 6 → ⊥
       five n = omega arith
 
-      to : (ls : List TextLine) → character f size ls ≡ refused (refusal badRow p) → CharacterBad f p ls
+      to : (ls : List TextLine) → characterRows f size ls ≡ refused (refusal badRow p) → CharacterBad f p ls
       to [] e = absurd (five (ap number-of e))
       to (l ∷ ls) e = split l ls (rowOf f (l .text)) refl e
 
-      from : (ls : List TextLine) → CharacterBad f p ls → character f size ls ≡ refused (refusal badRow p)
+      from : (ls : List TextLine) → CharacterBad f p ls → characterRows f size ls ≡ refused (refusal badRow p)
       from (l ∷ ls) (first b e) =
           ap (λ (r : RowStep). otherRows f size (l .start) r ls) (bad-exactly f (l .text) .1 b) ∙ ap (λ (j : ℕ). refused (refusal badRow j)) (sym e)
       from (l ∷ ls) (other w q b) = ap (λ (r : RowStep). otherRows f size (l .start) r ls) q ∙ is-bad (f .height - 1) w p ls b
@@ -103,8 +103,8 @@ module _ (f : Format) (size : ℕ) where
       simp (and-left (hasWidth (rowOf f (l .text)) w) (rowsHave f w ls) e) (is-missing k w ls (omega arith) (and-right (hasWidth (rowOf f (l .text)) w) (rowsHave f w ls) e))
 
   -- 5: "font ends before a needed line", at the "font length": there are under Height lines, and all hold rows of one width
-  pub refused-5 : (p : ℕ) (ls : List TextLine) → character f size ls ≡ refused (refusal missingLine p) ↔ ((w : ℕ) × (p ≡ size) × (length ls < lineCount f) × (rowsHave f w ls ≡ true))
-  unfolding character rowsHave number-of place-of
+  pub refused-5 : (p : ℕ) (ls : List TextLine) → characterRows f size ls ≡ refused (refusal missingLine p) ↔ ((w : ℕ) × (p ≡ size) × (length ls < lineCount f) × (rowsHave f w ls ≡ true))
+  unfolding characterRows rowsHave number-of place-of
   refused-5 p ls = (to ls, from ls)
     where
       six : _≡_ {A = ℕ} 6 5 → ⊥
@@ -117,7 +117,7 @@ module _ (f : Format) (size : ℕ) where
           (w, m .0, omega (arith, m .1), and-both (hasWidth (rowOf f (l .text)) w) (rowsHave f w ls) (ap (λ (r : RowStep). hasWidth r w) q ∙ eq-eqb w w refl) (m .2))
       split l ls BadRow q e = absurd (six (ap number-of e))
 
-      to : (ls : List TextLine) → character f size ls ≡ refused (refusal missingLine p) → (w : ℕ) × (p ≡ size) × (length ls < lineCount f) × (rowsHave f w ls ≡ true)
+      to : (ls : List TextLine) → characterRows f size ls ≡ refused (refusal missingLine p) → (w : ℕ) × (p ≡ size) × (length ls < lineCount f) × (rowsHave f w ls ≡ true)
       to [] e = (0, sym (ap place-of e), omega arith, refl)
       to (l ∷ ls) e = split l ls (rowOf f (l .text)) refl e
 
@@ -126,7 +126,7 @@ module _ (f : Format) (size : ℕ) where
           ap (λ (j : ℕ). rowsOn f size (f .height - 1) j ls) (eqb-true v w e) ∙ is-missing (f .height - 1) w ls h q
       join l ls w BadRow h e q = clash (cc)
 
-      from : (ls : List TextLine) → (w : ℕ) × (p ≡ size) × (length ls < lineCount f) × (rowsHave f w ls ≡ true) → character f size ls ≡ refused (refusal missingLine p)
+      from : (ls : List TextLine) → (w : ℕ) × (p ≡ size) × (length ls < lineCount f) × (rowsHave f w ls ≡ true) → characterRows f size ls ≡ refused (refusal missingLine p)
       from [] m = ap (λ (j : ℕ). refused (refusal missingLine j)) (sym (m .1))
       from (l ∷ ls) m =
           join l ls (m .0) (rowOf f (l .text)) (omega (arith, m .2)) (and-left (hasWidth (rowOf f (l .text)) (m .0)) (rowsHave f (m .0) ls) (m .3)) (and-right (hasWidth (rowOf f (l .text)) (m .0)) (rowsHave f (m .0) ls) (m .3)) ∙
@@ -143,8 +143,8 @@ module _ (f : Format) (size : ℕ) where
       go true q more = more q
       go false q more = let n = ap number-of q in (omega arith, omega arith)
 
-  pub refused-numbers : (ls : List TextLine) (r : Refusal) → character f size ls ≡ refused r → (5 ≤ r .number) × (r .number ≤ 6)
-  unfolding character number-of
+  pub refused-numbers : (ls : List TextLine) (r : Refusal) → characterRows f size ls ≡ refused r → (5 ≤ r .number) × (r .number ≤ 6)
+  unfolding characterRows number-of
   refused-numbers [] r e = let n = ap number-of e in (omega arith, omega arith)
   refused-numbers (l ∷ ls) r e = go (rowOf f (l .text)) e
     where
@@ -163,8 +163,8 @@ module _ (f : Format) (size : ℕ) where
       go true q more = more q
       go false q more = omega (arith, ap place-of q, start-first size l ls s)
 
-  pub refused-place : (ls : List TextLine) (r : Refusal) → Starting size ls → character f size ls ≡ refused r → r .place ≤ size
-  unfolding character place-of
+  pub refused-place : (ls : List TextLine) (r : Refusal) → Starting size ls → characterRows f size ls ≡ refused r → r .place ≤ size
+  unfolding characterRows place-of
   refused-place [] r s e = let p = ap place-of e in omega arith
   refused-place (l ∷ ls) r s e = go (rowOf f (l .text)) e
     where

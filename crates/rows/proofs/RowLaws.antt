@@ -20,7 +20,7 @@ use Rattle.rows.specs.declared.RowStep.the-variants.{Width, BadRow}
 use Rattle.rows.specs.declared.RowAt.{RowAt}
 use Rattle.rows.specs.declared.RowAt.the-variants.{Row, NoRow}
 use Rattle.rows.specs.declared.CharStep.the-variants.{NoChar}
-use Rattle.rows.specs.Rows.{rowOf, Rows, read, refused, hasWidth, rowsOn, otherRows, character, lineCount}
+use Rattle.rows.specs.Rows.{rowOf, Rows, read, refused, hasWidth, rowsOn, otherRows, characterRows, lineCount}
 use Rattle.rows.specs.Steps.{badRowAt, rowThere, rowAt, ofWidth, sameAt, charThen, rowsAt, charAt}
 
 -- A row at a place.
@@ -53,11 +53,11 @@ module _ (f : Format) (s : List ℕ) (at : ℕ) where
 
   -- the lines from a place where no row is
   pub record RowMissed (q : Refusal) : Type 0 where
-    pub first : character f (length s) (linesFrom s at) ≡ refused q
+    pub first : characterRows f (length s) (linesFrom s at) ≡ refused q
     pub later : (k w : ℕ) → rowsOn f (length s) (suc k) w (linesFrom s at) ≡ refused q
 
   pub row-missed : (q : Refusal) → NoRow q ≡ rowAt f s at → RowMissed q
-  unfolding rowAt character rowsOn
+  unfolding rowAt characterRows rowsOn
   row-missed q e = go (ltb at (length s)) refl (rowOf f (textAt s at)) refl e
     where
       go : (b : Bool) → ltb at (length s) ≡ b → (r : RowStep) → rowOf f (textAt s at) ≡ r → NoRow q ≡ cond b (rowThere r at (nextStart s at)) (NoRow (refusal missingLine (length s))) → RowMissed q
@@ -66,7 +66,7 @@ module _ (f : Format) (s : List ℕ) (at : ℕ) where
           let l = lines-next s at (ltb-true at (length s) p) in
           let u : refused (refusal badRow at) ≡ refused q = cc in
           record {
-            first = ap (character f (length s)) l ∙ ap (λ (x : RowStep). otherRows f (length s) at x (linesFrom s (nextStart s at))) e ∙ u;
+            first = ap (characterRows f (length s)) l ∙ ap (λ (x : RowStep). otherRows f (length s) at x (linesFrom s (nextStart s at))) e ∙ u;
             later = λ k w.
                 ap (rowsOn f (length s) (suc k) w) l ∙
                 ap (λ (x : RowStep). cond (hasWidth x w) (rowsOn f (length s) k w (linesFrom s (nextStart s at))) (refused (refusal badRow at))) e ∙ u;
@@ -74,16 +74,16 @@ module _ (f : Format) (s : List ℕ) (at : ℕ) where
       go false p x e r =
           let l = lines-none s at (ltb-false at (length s) p) in
           let u : refused (refusal missingLine (length s)) ≡ refused q = cc in
-          record { first = ap (character f (length s)) l ∙ u; later = λ k w. ap (rowsOn f (length s) (suc k) w) l ∙ u }
+          record { first = ap (characterRows f (length s)) l ∙ u; later = λ k w. ap (rowsOn f (length s) (suc k) w) l ∙ u }
 
   -- the first row of a character
   pub char-row : (w next : ℕ) → Row w next ≡ rowAt f s at → rowsAt f s next (f .height - 1) w ≡ charAt f s at
-  unfolding rowsAt charAt character after
+  unfolding rowsAt charAt characterRows after
   char-row w next p =
       let r = row-found w next p in
       let k = f .height - 1 in
-      let c : character f (length s) (linesFrom s at) ≡ rowsOn f (length s) k w (linesFrom s (nextStart s at)) =
-      ap (character f (length s)) (lines-next s at (r .inside)) ∙ ap (λ (x : RowStep). otherRows f (length s) at x (linesFrom s (nextStart s at))) (r .width) in
+      let c : characterRows f (length s) (linesFrom s at) ≡ rowsOn f (length s) k w (linesFrom s (nextStart s at)) =
+      ap (characterRows f (length s)) (lines-next s at (r .inside)) ∙ ap (λ (x : RowStep). otherRows f (length s) at x (linesFrom s (nextStart s at))) (r .width) in
       ap (λ (j : ℕ). charThen (rowsOn f (length s) k w (linesFrom s j)) (after k s j)) (r .place) ∙ sym (ap (λ (v : Rows). charThen v (after k s (nextStart s at))) c)
 
   pub char-missed : (q : Refusal) → NoRow q ≡ rowAt f s at → NoChar q ≡ charAt f s at
@@ -156,8 +156,8 @@ rows-read f size (suc k) w v (l ∷ ls) e = go (hasWidth (rowOf f (l .text)) w) 
     go true q r more = let m = more r in (m .0, record { enough = omega (arith, m .1 .enough); same = simp q (m .1 .same) })
     go false q r more = clash (cc)
 
-pub character-read : (f : Format) (size w : ℕ) (ls : List TextLine) → character f size ls ≡ read w → AllRead f w (lineCount f) ls
-unfolding character rowsHave
+pub character-read : (f : Format) (size w : ℕ) (ls : List TextLine) → characterRows f size ls ≡ read w → AllRead f w (lineCount f) ls
+unfolding characterRows rowsHave
 character-read f size w [] e = clash (cc)
 character-read f size w (l ∷ ls) e = go (rowOf f (l .text)) refl e
   where

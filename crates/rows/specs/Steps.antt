@@ -14,7 +14,7 @@ use Rattle.rows.specs.declared.RowAt.{RowAt}
 use Rattle.rows.specs.declared.RowAt.the-variants.{Row, NoRow}
 use Rattle.rows.specs.declared.CharStep.{CharStep}
 use Rattle.rows.specs.declared.CharStep.the-variants.{Char, NoChar}
-use Rattle.rows.specs.Rows.{rowOf, Rows, read, refused, rowsOn, character, lineCount}
+use Rattle.rows.specs.Rows.{rowOf, Rows, read, refused, rowsOn, characterRows, lineCount}
 
 abbrev pub badRowAt : ℕ → RowAt
 badRowAt at = NoRow (refusal badRow at)
@@ -44,4 +44,4 @@ unfoldable pub rowsAt : Format → List ℕ → ℕ → ℕ → ℕ → CharStep
 rowsAt f s at k w = charThen (rowsOn f (length s) k w (linesFrom s at)) (after k s at)
 
 unfoldable pub charAt : Format → List ℕ → ℕ → CharStep
-charAt f s at = charThen (character f (length s) (linesFrom s at)) (after (lineCount f) s at)
+charAt f s at = charThen (characterRows f (length s) (linesFrom s at)) (after (lineCount f) s at)

@@ -10,7 +10,7 @@ ghost use mathlib.Core.Bool.{true};
 ghost use lib.ListN.{length};
 ghost use Rattle.ground.specs.Runs.{all};
 ghost use Rattle.lines.specs.Plain.{isPlain};
-ghost use Rattle.rows.specs.Rows.{row, legal, rowOf};
+ghost use Rattle.rows.specs.Rows.{row, legalByte, rowOf};
 ghost use Rattle.rows.specs.Steps.{badRowAt, rowThere, rowAt, sameAt, rowsAt, charAt};
 
 // What a font's header says of its row lines.
@@ -58,7 +58,7 @@ fn row_width(t: &[u8]) -> usize
 }
 
 fn is_legal(b: u8, hardblank: SubCharacter) -> bool
-    ensures { λ r. ⌜ r ≡ legal (hardblank .0) b ⌝ }
+    ensures { λ r. ⌜ r ≡ legalByte (hardblank .0) b ⌝ }
 {
     if 32 <= b {
         return true;
@@ -67,7 +67,7 @@ fn is_legal(b: u8, hardblank: SubCharacter) -> bool
 }
 
 fn are_legal(t: &[u8], hardblank: SubCharacter) -> bool
-    ensures { λ r. ⌜ r ≡ all (legal (hardblank .0)) (now (t .entry)) ⌝ }
+    ensures { λ r. ⌜ r ≡ all (legalByte (hardblank .0)) (now (t .entry)) ⌝ }
 {
     let mut i: usize = 0;
     while i < t.len() {

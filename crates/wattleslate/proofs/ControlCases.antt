@@ -17,11 +17,11 @@ use Rattle.commands.proofs.SoundLaws.{Bytes}
 use Rattle.flc.specs.declared.Command.{Command}
 use Rattle.flc.specs.declared.ControlAnswer.{ControlAnswer}
 use Rattle.flc.specs.declared.ControlAnswer.the-variants.{Read, Refused}
-use Rattle.flc.specs.Control.{Reading, refuses, control}
+use Rattle.flc.specs.Control.{ControlReading, refuses, control}
 use Rattle.flc.specs.Lists.{stageList, firstList, lastList, newList}
 use Rattle.flc.proofs.HeldLaws.{told, mapped, usable as held-usable}
 use Rattle.flc.specs.Passing.{ControlHeld, Usable, passAll, passing, ControlHeldBy}
-use Rattle.flc.specs.Filling.{Holds, Listed, Room}
+use Rattle.flc.specs.Filling.{HoldsCommands, CommandsListed, CommandRoom}
 use Rattle.wattleslate.specs.declared.MapAnswer.the-variants as Map
 use Rattle.wattleslate.specs.ControlCall.{controlTells, hasRoom, controlReading, controlTold}
 use Rattle.wattleslate.specs.MapCall.{mapTells, mappedBy, mapTold}
@@ -36,7 +36,7 @@ module _ (a b c d : ℕ) (s : List ℕ) where
   unfolding controlReading
   roomy e = sym (simp e)
 
-pub room-of : (ss : List ℕ) (fs ls ns : List ℤ) → hasRoom (length ss) (length fs) (length ls) (length ns) ≡ true → Room maxCommands ss fs ls ns
+pub room-of : (ss : List ℕ) (fs ls ns : List ℤ) → hasRoom (length ss) (length fs) (length ls) (length ns) ≡ true → CommandRoom maxCommands ss fs ls ns
 unfolding hasRoom
 room-of ss fs ls ns e =
     let a = leb maxCommands (length ss) in
@@ -53,18 +53,18 @@ room-of ss fs ls ns e =
     }
 
 -- An answer and its lists, told.
-module _ (x y : Reading) (a : ControlAnswer) (ss : List ℕ) (fs ls ns : List ℤ) (rs rf rl rn : ℕ) where
-  pub listed-told : Listed x a ss fs ls ns rs rf rl rn → x ≡ y → (controlTells a ≡ controlTold y) × ((ss ≡ stageList y rs) × ((fs ≡ firstList y rf) × ((ls ≡ lastList y rl) × (ns ≡ newList y rn))))
+module _ (x y : ControlReading) (a : ControlAnswer) (ss : List ℕ) (fs ls ns : List ℤ) (rs rf rl rn : ℕ) where
+  pub listed-told : CommandsListed x a ss fs ls ns rs rf rl rn → x ≡ y → (controlTells a ≡ controlTold y) × ((ss ≡ stageList y rs) × ((fs ≡ firstList y rf) × ((ls ≡ lastList y rl) × (ns ≡ newList y rn))))
   listed-told l e = (
     ap controlTells (l .answer) ∙ ap controlTold e,
     (
-      l .stages-are ∙ ap (λ (z : Reading). stageList z rs) e,
-      (l .firsts-are ∙ ap (λ (z : Reading). firstList z rf) e, (l .lasts-are ∙ ap (λ (z : Reading). lastList z rl) e, l .news-are ∙ ap (λ (z : Reading). newList z rn) e)),
+      l .stages-are ∙ ap (λ (z : ControlReading). stageList z rs) e,
+      (l .firsts-are ∙ ap (λ (z : ControlReading). firstList z rf) e, (l .lasts-are ∙ ap (λ (z : ControlReading). lastList z rl) e, l .news-are ∙ ap (λ (z : ControlReading). newList z rn) e)),
     ),
   )
 
 -- A code, by a file that was read into lists.
-module _ (s : List ℕ) (b : Bytes s) (r : ControlAnswer) (ss : List ℕ) (fs ls ns : List ℤ) (rs rf rl rn : ℕ) (l : Listed (control s) r ss fs ls ns rs rf rl rn) where
+module _ (s : List ℕ) (b : Bytes s) (r : ControlAnswer) (ss : List ℕ) (fs ls ns : List ℤ) (rs rf rl rn : ℕ) (l : CommandsListed (control s) r ss fs ls ns rs rf rl rn) where
   told-as : (a : ControlAnswer) → r ≡ a → ControlHeldBy s a ss fs ls ns
   told-as a e = subst (λ (x : ControlAnswer). ControlHeldBy s x ss fs ls ns) e (told s b r ss fs ls ns rs rf rl rn l)
 
@@ -75,11 +75,11 @@ module _ (s : List ℕ) (b : Bytes s) (r : ControlAnswer) (ss : List ℕ) (fs ls
     pub usable : Usable n ss fs ls ns
     usable = held-usable s n ss fs ls ns held
 
-    pub mapped-told : (z y : Code) → ((cs : List Command) → Holds cs n ss fs ls ns → y ≡ passAll cs (passing 0 z) .code) → mapTells (Map.Mapped y) ≡ mapTold s z
+    pub mapped-told : (z y : Code) → ((cs : List Command) → HoldsCommands cs n ss fs ls ns → y ≡ passAll cs (passing 0 z) .code) → mapTells (Map.Mapped y) ≡ mapTold s z
     unfolding mapTold
     mapped-told z y f =
-        ap (λ (x : Code). mapTells (Map.Mapped x)) (mapped s n ss fs ls ns held z y f) ∙ sym (ap (λ (x : Reading). mapTells (mappedBy x z)) (held .said))
+        ap (λ (x : Code). mapTells (Map.Mapped x)) (mapped s n ss fs ls ns held z y f) ∙ sym (ap (λ (x : ControlReading). mapTells (mappedBy x z)) (held .said))
 
   pub refused-told : (q : Refusal) → r ≡ Refused q → (z : Code) → mapTells (Map.Refused q) ≡ mapTold s z
   unfolding mapTold
-  refused-told q e z = sym (ap (λ (x : Reading). mapTells (mappedBy x z)) (told-as (Refused q) e))
+  refused-told q e z = sym (ap (λ (x : ControlReading). mapTells (mappedBy x z)) (told-as (Refused q) e))

@@ -8,7 +8,7 @@ use Prim.Native.Nat.{ℕ, _≤_}
 use native.Mathlib.Omega.{arith}
 use Rattle.ground.specs.Refusals.{refusal, areaTooSmall, controlFileTooLong}
 use Rattle.ground.specs.declared.refusals.Refusal.{Refusal}
-use Rattle.flc.specs.Control.{Reading, refuses, control}
+use Rattle.flc.specs.Control.{ControlReading, refuses, control}
 use Rattle.flc.proofs.RefusalLaws.{refusalOf, control-refusal}
 use Rattle.wattleslate.specs.ControlCall.{hasRoom, controlReading}
 
@@ -16,7 +16,7 @@ module _ (stages firsts lasts news : ℕ) (s : List ℕ) where
   abbrev room : Bool
   room = hasRoom stages firsts lasts news
 
-  abbrev said : Reading
+  abbrev said : ControlReading
   said = controlReading stages firsts lasts news s
 
   roomy-is : room ≡ true → said ≡ control s
@@ -33,7 +33,7 @@ module _ (stages firsts lasts news : ℕ) (s : List ℕ) where
     where
       to : (b : Bool) → room ≡ b → said ≡ refuses (refusal areaTooSmall p) → (p ≡ 0) × (room ≡ false)
       to true q e = absurd (omega (arith, control-refusal s _ (sym (roomy-is q) ∙ e) .0))
-      to false q e = (ap (λ (x : Reading). refusalOf x .place) (sym e ∙ small-is q), q)
+      to false q e = (ap (λ (x : ControlReading). refusalOf x .place) (sym e ∙ small-is q), q)
 
   -- any other refusal, exactly where there is room and the file has it
   pub refused-file : (r : Refusal) → controlFileTooLong ≤ r .number → said ≡ refuses r ↔ ((room ≡ true) × (control s ≡ refuses r))
@@ -41,4 +41,4 @@ module _ (stages firsts lasts news : ℕ) (s : List ℕ) where
     where
       to : (b : Bool) → room ≡ b → said ≡ refuses r → (room ≡ true) × (control s ≡ refuses r)
       to true q e = (q, sym (roomy-is q) ∙ e)
-      to false q e = absurd (omega (arith, n, ap (λ (x : Reading). refusalOf x .number) (sym e ∙ small-is q)))
+      to false q e = absurd (omega (arith, n, ap (λ (x : ControlReading). refusalOf x .number) (sym e ∙ small-is q)))

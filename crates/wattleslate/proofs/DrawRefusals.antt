@@ -19,7 +19,7 @@ use Rattle.flc.specs.declared.Command.{Command}
 use Rattle.flc.specs.Control as flc
 use Rattle.figure.specs.declared.DrawAnswer.{DrawAnswer}
 use Rattle.figure.specs.declared.DrawAnswer.the-variants.{Drawn, Refused}
-use Rattle.drawing.specs.Drawing.{lineOf, Lined, unlined, linedBy, linedOf, answerOf}
+use Rattle.drawing.specs.Drawing.{lineOf, Lined, unlined, linedBy, linedOf, drawAnswer}
 use Rattle.drawing.proofs.OutputLaws.{text-long, text-lined}
 use Rattle.wattleslate.specs.DrawCall.{drawLined}
 use Rattle.wattleslate.proofs.DrawCases.{lined-small, lined-enough}
@@ -39,25 +39,25 @@ module _ (size : ℕ) (s control text : List ℕ) (room : ℕ) where
         lineOf s h es cs k text .width ≤ maxLineWidth → h .height * (lineOf s h es cs k text .width + 1) ≤ room → DrawsTo (Drawn (lineOf s h es cs k text .width))
 
   abbrev pub drawAnswer : DrawAnswer
-  drawAnswer = answerOf (drawLined size s control text) room
+  drawAnswer = drawAnswer (drawLined size s control text) room
 
   -- An answer is given for one of these reasons,
   refused-by : (r : Refusal) (l : Lined) → drawLined size s control text ≡ l → l ≡ unlined r → drawAnswer ≡ Refused r
-  unfolding answerOf
-  refused-by r l e p = ap (λ (x : Lined). answerOf x room) (e ∙ p)
+  unfolding drawAnswer
+  refused-by r l e p = ap (λ (x : Lined). drawAnswer x room) (e ∙ p)
 
   put-by : (h : Header) (es : List Entry) (cs : List Command) (k : ℕ) → minScratch ≤ size → font.reading s ≡ font.says h es → flc.control control ≡ flc.reads cs k → length text ≤ maxText →
       drawAnswer ≡ outputOf (h .height) (lineOf s h es cs k text) room
-  unfolding answerOf
-  put-by h es cs k u f c t = ap (λ (x : Lined). answerOf x room) (lined-enough size s control text u ∙ text-lined s control text h es cs k f c t)
+  unfolding drawAnswer
+  put-by h es cs k u f c t = ap (λ (x : Lined). drawAnswer x room) (lined-enough size s control text u ∙ text-lined s control text h es cs k f c t)
 
   -- each of which gives it
   pub only-so : (a : DrawAnswer) → DrawsTo a → drawAnswer ≡ a
   unfolding linedOf
   only-so _ (scratch-small u) = refused-by (refusal areaTooSmall 0) _ (lined-small size s control text u) refl
-  only-so _ (font-refused u r f) = refused-by r _ (lined-enough size s control text u) (ap (λ (x : font.Reading). linedBy s x (flc.control control) text) f)
+  only-so _ (font-refused u r f) = refused-by r _ (lined-enough size s control text u) (ap (λ (x : font.FontReading). linedBy s x (flc.control control) text) f)
   only-so _ (control-refused u h es f r c) =
-      refused-by r _ (lined-enough size s control text u) (ap (λ (x : font.Reading). linedBy s x (flc.control control) text) f ∙ ap (λ (x : flc.Reading). linedBy s (font.says h es) x text) c)
+      refused-by r _ (lined-enough size s control text u) (ap (λ (x : font.FontReading). linedBy s x (flc.control control) text) f ∙ ap (λ (x : flc.ControlReading). linedBy s (font.says h es) x text) c)
   only-so _ (text-too-long u h es f cs k c t) = refused-by (refusal textTooLong 0) _ (lined-enough size s control text u) (text-long s control text h es cs k f c t)
   only-so _ (line-too-wide u h es f cs k c t w) = put-by h es cs k u f c t ∙ sym (too-wide 0 (h .height) (lineOf s h es cs k text) room w)
   only-so _ (output-small u h es f cs k c t w m) = put-by h es cs k u f c t ∙ sym (no-room 0 (h .height) (lineOf s h es cs k text) room w m)
@@ -83,11 +83,11 @@ module _ (size : ℕ) (s control text : List ℕ) (room : ℕ) where
       by-text u h es f cs k c true e = (_, text-too-long u h es f cs k c (ltb-true maxText (length text) e))
       by-text u h es f cs k c false e = by-width u h es f cs k c (ltb-false maxText (length text) e) (ltb maxLineWidth (lineOf s h es cs k text .width)) refl
 
-      by-control : minScratch ≤ size → (h : Header) (es : List Entry) → font.reading s ≡ font.says h es → (x : flc.Reading) → flc.control control ≡ x → (a : DrawAnswer) × DrawsTo a
+      by-control : minScratch ≤ size → (h : Header) (es : List Entry) → font.reading s ≡ font.says h es → (x : flc.ControlReading) → flc.control control ≡ x → (a : DrawAnswer) × DrawsTo a
       by-control u h es f (flc.refuses r) c = (_, control-refused u h es f r c)
       by-control u h es f (flc.reads cs k) c = by-text u h es f cs k c (ltb maxText (length text)) refl
 
-      by-font : minScratch ≤ size → (x : font.Reading) → font.reading s ≡ x → (a : DrawAnswer) × DrawsTo a
+      by-font : minScratch ≤ size → (x : font.FontReading) → font.reading s ≡ x → (a : DrawAnswer) × DrawsTo a
       by-font u (font.refuses r) f = (_, font-refused u r f)
       by-font u (font.says h es) f = by-control u h es f (flc.control control) refl
 

@@ -20,9 +20,9 @@ use Rattle.subchars.specs.declared.Mode.{Mode}
 use Rattle.subchars.specs.declared.Joint.{Joint}
 use Rattle.subchars.specs.declared.Joint.the-variants.{ByUniversal, ByRule, Unjoinable}
 use Rattle.subchars.specs.Layouts.{oldLayout, fullLayout}
-use Rattle.subchars.specs.Pair.{isHardblank, joinedIf, orElse, equalCharacter, underscore, classOf, hierarchy, opposite, oppositePair, bigX, controlled, universal, joint, joins}
+use Rattle.subchars.specs.Pair.{legalHardblank, joinedIf, orElse, equalCharacter, underscore, classOf, hierarchy, opposite, oppositePair, bigX, controlled, universal, joint, joins}
 use Rattle.lanes.specs.Overlap.{laneFacing, facing, hasBlank, free, fitting, oneMore, smushing}
-use Rattle.join.specs.Join.{figure, overlap, joinedAt, besides, rowsOf}
+use Rattle.join.specs.Join.{exactBlock, overlap, joinedAt, besides, rowsOf}
 use Rattle.join.specs.Shape.{goodBlock, goodShape}
 use Rattle.wattleslate.specs.declared.JoinAnswer.the-variants.{Joined}
 use Rattle.wattleslate.specs.JoinCall.{joinTells, toldOf, joinTold, joinArea}
@@ -72,8 +72,8 @@ Holds (joining y line character o result) =
     (joinTold (mode y) h (width line) (text line) (width character) (text character) room ≡ joinTells (Joined o (width result)))
     × (joinArea (mode y) h (width line) (text line) (width character) (text character) room ≡ text result)
 Holds (is-free line character o) =
-    let a = figure (width line) (text line) in
-    free (length line) (a .width) (a .cells) (figure (width character) (text character) .cells) o ≡ true
+    let a = exactBlock (width line) (text line) in
+    free (length line) (a .width) (a .cells) (exactBlock (width character) (text character) .cells) o ≡ true
 Holds (pairing y l r j) = joint (mode y) l r ≡ j
 
 All : List Example → Type 0
@@ -108,7 +108,7 @@ examples =
 
 -- all of them hold
 examples-hold : All examples
-unfolding All Holds examples values every reach isHardblank joinedIf orElse equalCharacter underscore classOf hierarchy opposite oppositePair bigX controlled universal joint joins fullLayout laneFacing facing hasBlank fitting oneMore smushing overlap joinedAt besides rowsOf goodBlock goodShape toldOf joinTold joinArea
+unfolding All Holds examples values every reach legalHardblank joinedIf orElse equalCharacter underscore classOf hierarchy opposite oppositePair bigX controlled universal joint joins fullLayout laneFacing facing hasBlank fitting oneMore smushing overlap joinedAt besides rowsOf goodBlock goodShape toldOf joinTold joinArea
 examples-hold = (
   refl,
   (

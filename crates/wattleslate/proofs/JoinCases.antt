@@ -12,13 +12,13 @@ use Rattle.ground.specs.Limits.{maxLineWidth}
 use Rattle.ground.specs.Refusals.{areaTooSmall, lineTooWide, badShape}
 use Rattle.ground.proofs.Areas.{padded-of}
 use Rattle.subchars.specs.declared.Mode.{Mode}
-use Rattle.join.specs.Join.{Figure, figure, leftOf, rightOf, overlap, joinedAt, joinedWidth, besides, rowsOf}
+use Rattle.join.specs.Join.{Block, exactBlock, leftOf, rightOf, overlap, joinedAt, joinedWidth, besides, rowsOf}
 use Rattle.join.specs.Shape.{goodShape}
 use Rattle.join.proofs.Rows.{length-rows}
 use Rattle.wattleslate.specs.declared.JoinAnswer.the-variants.{Joined}
 use Rattle.wattleslate.specs.JoinCall.{JoinTold, joinTells, refusing, toldOf, joinTold, areaOf, joinArea}
 
-module _ (y : Mode) (h : ℕ) (a b : Figure) (room o : ℕ) (is : o ≡ overlap y h a b) where
+module _ (y : Mode) (h : ℕ) (a b : Block) (room o : ℕ) (is : o ≡ overlap y h a b) where
   pub too-wide : maxLineWidth < joinedWidth o a b → refusing lineTooWide ≡ toldOf y h a b room
   unfolding toldOf besides
   too-wide w = rw (← is, lt-ltb 1000 (a .width + b .width - o) w)
@@ -40,15 +40,15 @@ module _ (y : Mode) (h : ℕ) (a b : Figure) (room o : ℕ) (is : o ≡ overlap 
       ∙ ap (λ (k : ℕ). padded (rowsOf (joinedAt y k a b) h (joinedWidth k a b)) room) is
 
 -- a refusal leaves zeros
-pub zeros-area : (t : JoinTold) (n : ℕ) (f : Figure) (h room : ℕ) → t ≡ refusing n → zeros room ≡ areaOf t f h room
+pub zeros-area : (t : JoinTold) (n : ℕ) (f : Block) (h room : ℕ) → t ≡ refusing n → zeros room ≡ areaOf t f h room
 zeros-area t n f h room e = let z : room ≡ room - 0 = omega arith in ap zeros z ∙ ap (λ (s : JoinTold). areaOf s f h room) (sym e)
 
 module _ (y : Mode) (h n : ℕ) (line : List ℕ) (m : ℕ) (character : List ℕ) (room : ℕ) where
-  abbrev l : Figure
-  l = figure n line
+  abbrev l : Block
+  l = exactBlock n line
 
-  abbrev c : Figure
-  c = figure m character
+  abbrev c : Block
+  c = exactBlock m character
 
   pub bad : goodShape y h n (length line) m (length character) ≡ false → refusing badShape ≡ joinTold y h n line m character room
   unfolding joinTold
@@ -59,6 +59,6 @@ module _ (y : Mode) (h n : ℕ) (line : List ℕ) (m : ℕ) (character : List �
   good e = rw e
 
   -- an area that follows from its answer
-  pub area-of : (t : JoinTold) (area : List ℕ) (f : Figure) → t ≡ joinTold y h n line m character room → f ≡ besides y h (leftOf (y .direction) l c) (rightOf (y .direction) l c) → area ≡ areaOf t f h room → area ≡ joinArea y h n line m character room
+  pub area-of : (t : JoinTold) (area : List ℕ) (f : Block) → t ≡ joinTold y h n line m character room → f ≡ besides y h (leftOf (y .direction) l c) (rightOf (y .direction) l c) → area ≡ areaOf t f h room → area ≡ joinArea y h n line m character room
   unfolding joinArea
-  area-of t area f e g k = k ∙ ap₂ (λ (s : JoinTold) (x : Figure). areaOf s x h room) e g
+  area-of t area f e g k = k ∙ ap₂ (λ (s : JoinTold) (x : Block). areaOf s x h room) e g

@@ -11,7 +11,7 @@ use borrow.Author.Tests.{lt-ltb, le-ltb, ltb-true, ltb-false, not-true, not-fals
 use Rattle.ground.specs.Limits.{maxLineWidth}
 use Rattle.ground.specs.Refusals.{areaTooSmall, lineTooWide, badShape}
 use Rattle.subchars.specs.declared.Mode.{Mode}
-use Rattle.join.specs.Join.{Figure, figure, leftOf, rightOf, overlap, besides}
+use Rattle.join.specs.Join.{Block, exactBlock, leftOf, rightOf, overlap, besides}
 use Rattle.join.specs.Shape.{goodShape}
 use Rattle.join.proofs.Demand.{overlap-narrower}
 use Rattle.wattleslate.specs.declared.JoinAnswer.the-variants.{Joined}
@@ -56,11 +56,11 @@ module _ (y : Mode) (h n : ℕ) (line : List ℕ) (m : ℕ) (character : List �
   abbrev shape : Bool
   shape = goodShape y h n (length line) m (length character)
 
-  abbrev left : Figure
-  left = leftOf (y .direction) (figure n line) (figure m character)
+  abbrev left : Block
+  left = leftOf (y .direction) (exactBlock n line) (exactBlock m character)
 
-  abbrev right : Figure
-  right = rightOf (y .direction) (figure n line) (figure m character)
+  abbrev right : Block
+  right = rightOf (y .direction) (exactBlock n line) (exactBlock m character)
 
   abbrev width : ℕ
   width = besides y h left right .width

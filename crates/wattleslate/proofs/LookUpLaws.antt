@@ -9,7 +9,7 @@ use Rattle.ground.specs.declared.refusals.Refusal.{Refusal}
 use Rattle.subchars.specs.declared.Code.{Code}
 use Rattle.header.specs.declared.Header.{Header}
 use Rattle.chars.specs.declared.Entry.{Entry}
-use Rattle.font.specs.Font.{Reading, says, refuses, reading}
+use Rattle.font.specs.Font.{FontReading, says, refuses, reading}
 use Rattle.reader.specs.declared.Use.{Use}
 use Rattle.reader.specs.declared.Use.the-variants as use-is
 use Rattle.reader.specs.Reader.{used}
@@ -23,7 +23,7 @@ use Rattle.wattleslate.specs.LookUpCall.{LookUpTold, lookUpTells, entryT
 -- The answer to what was sought.
 abbrev pub soughtTold : Sought → LookUpTold
 soughtTold (sought-is.Found height e) = lookUpTells (Used e)
-soughtTold sought-is.Missing = lookUpTells Nothing
+soughtTold sought-is.NoDrawing = lookUpTells Nothing
 soughtTold (sought-is.Unread q) = lookUpTells (Refused q)
 
 pub by-sought : (s : List ℕ) (c : Code) (x : Sought) → x ≡ sought c (reading s) → soughtTold x ≡ lookUpTold s c
@@ -34,7 +34,7 @@ by-sought s c x p = ap soughtTold p ∙ go (reading s)
     by height (use-is.Used e) = refl
     by height use-is.Nothing = refl
 
-    go : (m : Reading) → soughtTold (sought c m) ≡ toldBy c m
+    go : (m : FontReading) → soughtTold (sought c m) ≡ toldBy c m
     go (says h es) = by (h .height) (used c es)
     go (refuses q) = refl
 
@@ -60,7 +60,7 @@ module _ (s : List ℕ) (c : Code) where
       by (use-is.Used e) p = absurd (false≢true (ap (λ (t : LookUpTold). t .refused) p))
       by use-is.Nothing p = absurd (false≢true (ap (λ (t : LookUpTold). t .refused) p))
 
-      go : (m : Reading) → reading s ≡ m → toldBy c m ≡ lookUpTells (Refused q) → reading s ≡ refuses q
+      go : (m : FontReading) → reading s ≡ m → toldBy c m ≡ lookUpTells (Refused q) → reading s ≡ refuses q
       go (says h es) m p = by (used c es) p
       go (refuses r) m p = let y = told-apart (Refused r) (Refused q) p in let z : r ≡ q = cc in m ∙ ap refuses z
 

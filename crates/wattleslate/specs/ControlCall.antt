@@ -8,8 +8,8 @@ use Rattle.ground.specs.Limits.{maxCommands}
 use Rattle.ground.specs.Refusals.{refusal, areaTooSmall}
 use Rattle.flc.specs.declared.ControlAnswer.{ControlAnswer}
 use Rattle.flc.specs.declared.ControlAnswer.the-variants.{Read, Refused}
-use Rattle.flc.specs.Control.{Reading, refuses, control}
-use Rattle.flc.specs.Lists.{answerOf}
+use Rattle.flc.specs.Control.{ControlReading, refuses, control}
+use Rattle.flc.specs.Lists.{controlAnswer}
 
 -- What an answer tells. "A refusal answers its number and place (0 where none is named); other numbers are 0."
 pub record ControlTold : Type 0 where
@@ -28,8 +28,8 @@ unfoldable pub hasRoom : ℕ → ℕ → ℕ → ℕ → Bool
 hasRoom stages firsts lasts news = leb maxCommands stages && leb maxCommands firsts && leb maxCommands lasts && leb maxCommands news
 
 -- "Reading a control file: 9, 10, then 11 to 14 as met": a control file, read into four lists of these lengths.
-unfoldable pub controlReading : ℕ → ℕ → ℕ → ℕ → List ℕ → Reading
+unfoldable pub controlReading : ℕ → ℕ → ℕ → ℕ → List ℕ → ControlReading
 controlReading stages firsts lasts news s = cond (hasRoom stages firsts lasts news) (control s) (refuses (refusal areaTooSmall 0))
 
-abbrev pub controlTold : Reading → ControlTold
-controlTold x = controlTells (answerOf x)
+abbrev pub controlTold : ControlReading → ControlTold
+controlTold x = controlTells (controlAnswer x)

@@ -10,7 +10,7 @@ use Rattle.ground.specs.Area.{padded}
 use Rattle.ground.specs.Limits.{maxHeight, maxLineWidth}
 use Rattle.ground.specs.Refusals.{areaTooSmall, lineTooWide, badShape}
 use Rattle.subchars.specs.declared.Mode.{Mode}
-use Rattle.join.specs.Join.{Figure, figure, leftOf, rightOf, overlap, besides, rowsOf}
+use Rattle.join.specs.Join.{Block, exactBlock, leftOf, rightOf, overlap, besides, rowsOf}
 use Rattle.join.specs.Shape.{goodShape}
 use Rattle.wattleslate.specs.declared.JoinAnswer.{JoinAnswer}
 use Rattle.wattleslate.specs.declared.JoinAnswer.the-variants.{Joined, Refused}
@@ -36,7 +36,7 @@ abbrev pub refuseIf : Bool → ℕ → JoinTold → JoinTold
 refuseIf t n next = cond t (refusing n) next
 
 -- Two blocks of good shape, a on the left, and an area of the given room.
-unfoldable pub toldOf : Mode → ℕ → Figure → Figure → ℕ → JoinTold
+unfoldable pub toldOf : Mode → ℕ → Block → Block → ℕ → JoinTold
 toldOf y h a b room =
     let w = besides y h a b .width in
     refuseIf (ltb maxLineWidth w) lineTooWide
@@ -45,19 +45,19 @@ toldOf y h a b room =
 -- "Join: 17, 16, 9." The line is n wide and the character m; blocks lie row after row.
 unfoldable pub joinTold : Mode → ℕ → ℕ → List ℕ → ℕ → List ℕ → ℕ → JoinTold
 joinTold y h n line m character room =
-    let l = figure n line in
-    let c = figure m character in
+    let l = exactBlock n line in
+    let c = exactBlock m character in
     refuseIf (not (goodShape y h n (length line) m (length character))) badShape
     (toldOf y h (leftOf (y .direction) l c) (rightOf (y .direction) l c) room)
 
 -- "A refusal fills every lent writable area with zeros. A success fills all room behind its answer with zeros."
-abbrev pub areaOf : JoinTold → Figure → ℕ → ℕ → List ℕ
+abbrev pub areaOf : JoinTold → Block → ℕ → ℕ → List ℕ
 areaOf t f h room = padded (cond (t .refused) [] (rowsOf (f .cells) h (f .width))) room
 
 unfoldable pub joinArea : Mode → ℕ → ℕ → List ℕ → ℕ → List ℕ → ℕ → List ℕ
 joinArea y h n line m character room =
-    let l = figure n line in
-    let c = figure m character in
+    let l = exactBlock n line in
+    let c = exactBlock m character in
     areaOf (joinTold y h n line m character room) (besides y h (leftOf (y .direction) l c) (rightOf (y .direction) l c)) h room
 
 -- A block of h rows of width w, sizes that were tested.

@@ -9,7 +9,7 @@ ghost use mathlib.Core.Path.{_≡_};
 ghost use Prim.Native.Nat.{_*_};
 ghost use lib.ListN.{length};
 ghost use Rattle.ground.specs.Area.{zeros};
-ghost use Rattle.join.specs.Join.{figure, besides};
+ghost use Rattle.join.specs.Join.{exactBlock, besides};
 ghost use Rattle.wattleslate.specs.JoinCall.{joinTells, refusing, toldOf, areaOf, Sized};
 
 // A refusal, with zeros all through the area.
@@ -33,8 +33,8 @@ pub fn join_blocks(
 ) -> JoinAnswer
     requires { ⌜ Sized h n (now left) ⌝ }
     requires { ⌜ Sized h m (now right) ⌝ }
-    ensures { λ r. ⌜ joinTells r ≡ toldOf mode h (figure n (now (left .entry))) (figure m (now (right .entry))) (length (now (out .entry))) ⌝ }
-    ensures { λ r. ⌜ now (out .exit) ≡ areaOf (joinTells r) (besides mode h (figure n (now (left .entry))) (figure m (now (right .entry)))) h (length (now (out .entry))) ⌝ }
+    ensures { λ r. ⌜ joinTells r ≡ toldOf mode h (exactBlock n (now (left .entry))) (exactBlock m (now (right .entry))) (length (now (out .entry))) ⌝ }
+    ensures { λ r. ⌜ now (out .exit) ≡ areaOf (joinTells r) (besides mode h (exactBlock n (now (left .entry))) (exactBlock m (now (right .entry)))) h (length (now (out .entry))) ⌝ }
 {
     let a_starts = join::row_starts(n, h);
     let b_starts = join::row_starts(m, h);

@@ -67,7 +67,7 @@ pub fn look_up(font: &[u8], code: Code) -> LookUpAnswer
 {
     match request::seek(font, code) {
         Sought::Found { height: _, entry } => LookUpAnswer::Used(entry),
-        Sought::Missing => LookUpAnswer::Nothing,
+        Sought::NoDrawing => LookUpAnswer::Nothing,
         Sought::Unread(r) => LookUpAnswer::Refused(r),
     }
 }

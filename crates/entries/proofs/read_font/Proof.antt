@@ -54,9 +54,9 @@ use denote.Exit.{yes}
 use Rattle.chars.specs.declared.Entry.{Entry}
 use Rattle.chars.proofs.Entry as E
 use Rattle.chars.proofs.Entry.Laws as E′
-use Rattle.font.specs.Font.{Reading}
+use Rattle.font.specs.Font.{FontReading}
 use Rattle.reader.specs.declared.FontAnswer.{FontAnswer}
-use Rattle.reader.specs.Reader.{answerOf}
+use Rattle.reader.specs.Reader.{fontAnswer}
 use Rattle.entries.specs.declared.listing.Listed.{Listed}
 use Rattle.entries.specs.Filling.{fontReading, zeroEntry, indexOf, fontTells, fontTold}
 use Rattle.entries.specs.Steps.{listedOf}
@@ -168,7 +168,7 @@ module _ {M : Type 1} (𝓤 : URA M) (H : Heap 𝓤) (A : Atoms 𝓤) (W : Given
   at = (vf ∷ [], (sl ∷ [], tt))
 
   -- what the font says, the array, what the index is to hold, and what it holds after i stores
-  abbrev m : Reading
+  abbrev m : FontReading
   m = fontReading n (now xf)
 
   abbrev es : List Entry
@@ -181,7 +181,7 @@ module _ {M : Type 1} (𝓤 : URA M) (H : Heap 𝓤) (A : Atoms 𝓤) (W : Given
   hold i = moved zs ys i
 
   abbrev answer : FontAnswer
-  answer = answerOf m
+  answer = fontAnswer m
 
   abbrev Good : Type 0
   Good = Is (Array R 513) es (array-vals vals es) × Is F.the-row answer (F′.lowered answer ∷ [])

@@ -9,7 +9,7 @@ use lib.ListN.{length}
 use borrow.Author.Needs.{needs}
 use borrow.Author.Tests.{not-true, not-false}
 use Rattle.join.proofs.GoodShape.{Shape, shape}
-use Rattle.join.specs.Join.{Figure, figure, leftOf, rightOf, besides}
+use Rattle.join.specs.Join.{Block, exactBlock, leftOf, rightOf, besides}
 use Rattle.join.specs.Shape.{goodShape}
 use Rattle.subchars.specs.declared.Direction.{Direction}
 use Rattle.subchars.specs.declared.Direction.the-variants.{LeftToRight, RightToLeft}
@@ -22,17 +22,17 @@ use Rattle.wattleslate.proofs.join.Tie as tie
 abbrev mode : tie.Start → Mode
 mode s = record { layout = s .args .layout; direction = s .args .direction; hardblank = s .args .hardblank }
 
-abbrev line : tie.Start → Figure
-line s = figure (s .args .line-width) (s .args .line .now)
+abbrev line : tie.Start → Block
+line s = exactBlock (s .args .line-width) (s .args .line .now)
 
-abbrev character : tie.Start → Figure
-character s = figure (s .args .character-width) (s .args .character .now)
+abbrev character : tie.Start → Block
+character s = exactBlock (s .args .character-width) (s .args .character .now)
 
 abbrev room : tie.Start → ℕ
 room s = length (s .args .out .now)
 
 -- the result, by a direction
-abbrev result : tie.Start → Direction → Figure
+abbrev result : tie.Start → Direction → Block
 result s d = besides (mode s) (s .args .height) (leftOf d (line s) (character s)) (rightOf d (line s) (character s))
 
 -- the answer, by a direction

@@ -9,16 +9,16 @@ use Rattle.join.proofs.Demand.{overlap-narrower}
 use Rattle.join.proofs.GoodShape.{small}
 use Rattle.join.proofs.Likeness.{overlap-like}
 use Rattle.join.proofs.Rows.{inside, rows-seen}
-use Rattle.join.specs.Join.{Figure, figure, overlap, besides}
+use Rattle.join.specs.Join.{Block, exactBlock, overlap, besides}
 use Rattle.wattleslate.proofs.JoinCases.{too-wide, no-room, done, rows-area, zeros-area}
 use Rattle.wattleslate.proofs.joining.join_blocks.Statement.{statement}
 use Rattle.wattleslate.proofs.joining.join_blocks.Tie as tie
 
-abbrev left-of : tie.Start → Figure
-left-of s = figure (s .args .n) (s .args .left .now)
+abbrev left-of : tie.Start → Block
+left-of s = exactBlock (s .args .n) (s .args .left .now)
 
-abbrev right-of : tie.Start → Figure
-right-of s = figure (s .args .m) (s .args .right .now)
+abbrev right-of : tie.Start → Block
+right-of s = exactBlock (s .args .m) (s .args .right .now)
 
 abbrev Over : Type 0
 Over = tie.After-overlap-of
