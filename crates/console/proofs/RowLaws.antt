@@ -19,17 +19,17 @@ use Rattle.drawing.specs.declared.Files.{Files}
 use Rattle.drawing.specs.declared.Files.the-variants as files
 use Rattle.figure.specs.declared.DrawAnswer.{DrawAnswer}
 use Rattle.figure.specs.declared.DrawAnswer.the-variants.{Drawn, Refused}
-use Rattle.drawing.specs.Drawing.{Lined, unlined, linedOf, drawAnswer, PutOut}
+use Rattle.drawing.specs.Drawing.{Lined, unlined, linedOf, linedAnswer, PutOut}
 use Rattle.drawing.specs.Held.{FilesHeld}
 use Rattle.drawing.proofs.CharacterLaws.{few-rows}
 use Rattle.drawing.proofs.OutputLaws.{text-long, text-lined}
 use Rattle.console.specs.Rows.{RowsFit}
 
 -- A refused line has no width.
-unlined-none : (l : Lined) (r : Refusal) (room w : ℕ) → l ≡ unlined r → Drawn w ≡ drawAnswer l room → ⊥
-unfolding drawAnswer
+unlined-none : (l : Lined) (r : Refusal) (room w : ℕ) → l ≡ unlined r → Drawn w ≡ linedAnswer l room → ⊥
+unfolding linedAnswer
 unlined-none l r room w e a =
-    let b : Drawn w ≡ Refused r = a ∙ ap (λ (k : Lined). drawAnswer k room) e in
+    let b : Drawn w ≡ Refused r = a ∙ ap (λ (k : Lined). linedAnswer k room) e in
     let z : _≡_ {A = ℕ} 0 1 = cc in
     omega arith
 
@@ -54,13 +54,13 @@ drawn-fits h line room w a =
 
 module _ (s control text : List ℕ) (codes : List ℤ) (starts widths places stages : List ℕ) (firsts lasts news : List ℤ) (room w : ℕ) (out : List ℕ) where
   pub rows-in : (f : Files) → FilesHeld s control f codes starts widths places stages firsts lasts news → PutOut (linedOf s control text) room (Drawn w) out → RowsFit f w room
-  unfolding drawAnswer
+  unfolding linedAnswer
   rows-in (files.Read h n m) held put =
       elim (decLt maxText (length text)) [
         | yes l ↦ absurd (unlined-none _ _ room w (text-long s control text h _ _ _ (held .0 .said) (held .1 .said) l) (put .answers))
         | no l ↦
             let e = text-lined s control text h _ _ _ (held .0 .said) (held .1 .said) (omega arith) in
-            let x = drawn-fits (h .height) _ room w (put .answers ∙ ap (λ (k : Lined). drawAnswer k room) e) in
+            let x = drawn-fits (h .height) _ room w (put .answers ∙ ap (λ (k : Lined). linedAnswer k room) e) in
             record { few = few-rows s h n codes starts widths places (held .0); narrow = x .narrow; inside = x .inside }
       ]
   rows-in (files.Refused r) held put = absurd (unlined-none _ r room w (held text) (put .answers))

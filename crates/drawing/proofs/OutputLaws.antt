@@ -25,12 +25,12 @@ use Rattle.flc.specs.declared.Command.{Command}
 use Rattle.flc.specs.Control as flc
 use Rattle.figure.specs.declared.DrawAnswer.{DrawAnswer}
 use Rattle.figure.specs.declared.DrawAnswer.the-variants.{Refused}
-use Rattle.drawing.specs.Drawing.{modeOf, lineOf, lined, unlined, linedBy, linedOf, drawAnswer, bytesOf, PutOut}
+use Rattle.drawing.specs.Drawing.{modeOf, lineOf, lined, unlined, linedBy, linedOf, linedAnswer, bytesOf, PutOut}
 use Rattle.drawing.specs.Steps.{Reached}
 
 -- A refusal leaves zeros.
 pub unlined-out : (r : Refusal) (room : ℕ) (out : List ℕ) → out ≡ zeros (room - 0) → PutOut (unlined r) room (Refused r) out
-unfolding drawAnswer bytesOf
+unfolding linedAnswer bytesOf
 unlined-out r room out e = record { answers = refl; holds = e }
 
 -- The line in the area, w wide, and the line that it stands for.
@@ -59,7 +59,7 @@ module _ (h : Header) (w : ℕ) (area : List ℕ) (line : Block) (reached : Reac
 
   pub lined-out : (y : Mode) → y ≡ modeOf h → (a : DrawAnswer) (out : List ℕ) → a ≡ outputOf (h .height) (scratchLine (y .direction) w area) room →
       out ≡ padded (outputBytes (y .hardblank .0) (h .height) (scratchLine (y .direction) w area) room) room → PutOut (lined h line) room a out
-  unfolding drawAnswer bytesOf modeOf
+  unfolding linedAnswer bytesOf modeOf
   lined-out y p a out e b =
       record {
         answers = e ∙ ap (λ (z : Mode). outputOf (h .height) (scratchLine (z .direction) w area) room) p ∙ same-output;

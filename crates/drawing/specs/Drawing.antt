@@ -98,9 +98,9 @@ unfoldable pub linedOf : List ℕ → List ℕ → List ℕ → Lined
 linedOf s control text = linedBy s (font.reading s) (flc.control control) text
 
 -- 5. "The output is each row with hardblanks as blanks, then LF; the answer gives the width."
-unfoldable pub drawAnswer : Lined → ℕ → DrawAnswer
-drawAnswer (unlined r) room = Refused r
-drawAnswer (lined h l) room = outputOf (h .height) l room
+unfoldable pub linedAnswer : Lined → ℕ → DrawAnswer
+linedAnswer (unlined r) room = Refused r
+linedAnswer (lined h l) room = outputOf (h .height) l room
 
 -- The bytes at the start of the output: none after a refusal.
 unfoldable pub bytesOf : Lined → ℕ → List ℕ
@@ -110,5 +110,5 @@ bytesOf (lined h l) room = outputBytes (h .hardblank .0) (h .height) l room
 -- "A refusal fills every lent writable area with zeros. A success fills all room behind its answer with zeros." The answer and the output, of the
 -- given room.
 pub record PutOut (l : Lined) (room : ℕ) (answer : DrawAnswer) (output : List ℕ) : Type 0 where
-  pub answers : answer ≡ drawAnswer l room
+  pub answers : answer ≡ linedAnswer l room
   pub holds : output ≡ padded (bytesOf l room) room

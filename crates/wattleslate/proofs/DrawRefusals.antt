@@ -19,7 +19,7 @@ use Rattle.flc.specs.declared.Command.{Command}
 use Rattle.flc.specs.Control as flc
 use Rattle.figure.specs.declared.DrawAnswer.{DrawAnswer}
 use Rattle.figure.specs.declared.DrawAnswer.the-variants.{Drawn, Refused}
-use Rattle.drawing.specs.Drawing.{lineOf, Lined, unlined, linedBy, linedOf, drawAnswer}
+use Rattle.drawing.specs.Drawing.{lineOf, Lined, unlined, linedBy, linedOf, linedAnswer}
 use Rattle.drawing.proofs.OutputLaws.{text-long, text-lined}
 use Rattle.wattleslate.specs.DrawCall.{drawLined}
 use Rattle.wattleslate.proofs.DrawCases.{lined-small, lined-enough}
@@ -39,17 +39,17 @@ module _ (size : ℕ) (s control text : List ℕ) (room : ℕ) where
         lineOf s h es cs k text .width ≤ maxLineWidth → h .height * (lineOf s h es cs k text .width + 1) ≤ room → DrawsTo (Drawn (lineOf s h es cs k text .width))
 
   abbrev pub drawAnswer : DrawAnswer
-  drawAnswer = drawAnswer (drawLined size s control text) room
+  drawAnswer = linedAnswer (drawLined size s control text) room
 
   -- An answer is given for one of these reasons,
   refused-by : (r : Refusal) (l : Lined) → drawLined size s control text ≡ l → l ≡ unlined r → drawAnswer ≡ Refused r
-  unfolding drawAnswer
-  refused-by r l e p = ap (λ (x : Lined). drawAnswer x room) (e ∙ p)
+  unfolding linedAnswer
+  refused-by r l e p = ap (λ (x : Lined). linedAnswer x room) (e ∙ p)
 
   put-by : (h : Header) (es : List Entry) (cs : List Command) (k : ℕ) → minScratch ≤ size → font.reading s ≡ font.says h es → flc.control control ≡ flc.reads cs k → length text ≤ maxText →
       drawAnswer ≡ outputOf (h .height) (lineOf s h es cs k text) room
-  unfolding drawAnswer
-  put-by h es cs k u f c t = ap (λ (x : Lined). drawAnswer x room) (lined-enough size s control text u ∙ text-lined s control text h es cs k f c t)
+  unfolding linedAnswer
+  put-by h es cs k u f c t = ap (λ (x : Lined). linedAnswer x room) (lined-enough size s control text u ∙ text-lined s control text h es cs k f c t)
 
   -- each of which gives it
   pub only-so : (a : DrawAnswer) → DrawsTo a → drawAnswer ≡ a

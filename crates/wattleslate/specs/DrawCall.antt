@@ -9,7 +9,7 @@ use Rattle.ground.specs.Refusals.{refusal, areaTooSmall}
 use Rattle.ground.specs.Limits.{minScratch}
 use Rattle.figure.specs.declared.DrawAnswer.{DrawAnswer}
 use Rattle.figure.specs.declared.DrawAnswer.the-variants.{Drawn, Refused}
-use Rattle.drawing.specs.Drawing.{Lined, unlined, linedOf, drawAnswer, bytesOf}
+use Rattle.drawing.specs.Drawing.{Lined, unlined, linedOf, linedAnswer, bytesOf}
 
 -- What an answer tells. "A refusal answers its number and place (0 where none is named); other numbers are 0."
 pub record DrawTold : Type 0 where
@@ -27,7 +27,7 @@ unfoldable pub drawLined : ℕ → List ℕ → List ℕ → List ℕ → Lined
 drawLined scratch font control text = cond (ltb scratch minScratch) (unlined (refusal areaTooSmall 0)) (linedOf font control text)
 
 unfoldable pub drawTold : ℕ → List ℕ → List ℕ → List ℕ → ℕ → DrawTold
-drawTold scratch font control text room = drawTells (drawAnswer (drawLined scratch font control text) room)
+drawTold scratch font control text room = drawTells (linedAnswer (drawLined scratch font control text) room)
 
 -- "A refusal fills every lent writable area with zeros. A success fills all room behind its answer with zeros."
 unfoldable pub drawOutput : ℕ → List ℕ → List ℕ → List ℕ → ℕ → List ℕ
