@@ -21,7 +21,7 @@ use Rattle.figure.specs.declared.DrawAnswer.{DrawAnswer}
 use Rattle.figure.specs.declared.DrawAnswer.the-variants.{Drawn, Refused}
 use Rattle.drawing.specs.Drawing.{Lined, unlined, linedOf, linedAnswer, PutOut}
 use Rattle.drawing.specs.Held.{FilesHeld}
-use Rattle.drawing.proofs.CharacterLaws.{few-rows}
+use Rattle.source.proofs.CharacterLaws.{few-rows}
 use Rattle.drawing.proofs.OutputLaws.{text-long, text-lined}
 use Rattle.console.specs.Rows.{RowsFit}
 

@@ -1,6 +1,5 @@
 // The public calls. Each is total: it tests its own input, and its `ensures` hold for every input.
 mod controlling;
-mod drawn;
 mod joining;
 
 // The types that the calls take and answer, and the two calls over a lent index.
@@ -209,7 +208,5 @@ pub fn draw(
     ensures output { λ r. ⌜ now (out .exit) ≡ drawOutput (length (now (scratch .entry))) (now (font .entry)) (now (control .entry)) (now (text .entry)) (length (now (out .entry))) ⌝ }
     ensures scratch { λ r. ⌜ now (scratch .exit) ≡ zeros (length (now (scratch .entry))) ⌝ }
 {
-    let answer = drawn::draw_tested(out, scratch, text, font, control);
-    ground::zero_from(scratch, 0);
-    answer
+    drawing::draw(font, control, text, scratch, out)
 }

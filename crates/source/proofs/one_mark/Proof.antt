@@ -1,12 +1,12 @@
--- `drawing::one_mark` meets its contract.
+-- `source::one_mark` meets its contract.
 -- Assumes nothing.
 use mathlib.Core.Bool.{false≢true}
 use native.Mathlib.Omega.{arith}
 use borrow.Author.Tests.{eqb-true}
-use Rattle.drawing.proofs.MarkLaws.{byte-within, lf-behind}
+use Rattle.source.proofs.MarkLaws.{byte-within, lf-behind}
 use borrow.Author.Needs.{needs}
-use Rattle.drawing.proofs.one_mark.Statement.{statement}
-use Rattle.drawing.proofs.one_mark.Tie as tie
+use Rattle.source.proofs.one_mark.Statement.{statement}
+use Rattle.source.proofs.one_mark.Tie as tie
 
 add-if1 : tie.Need-add-if1
 add-if1 c = omega (arith, byte-within (c .args .font .now) (c .args .at) (c .pre))

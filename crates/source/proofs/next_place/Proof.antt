@@ -1,13 +1,13 @@
--- `drawing::next_place` meets its contract.
+-- `source::next_place` meets its contract.
 -- Assumes nothing.
 use mathlib.Core.Path.{sym, _∙_}
 use native.Mathlib.Omega.{arith}
 use Rattle.lines.proofs.LineLaws.{line-found, line-missed}
 use Rattle.request.proofs.PlaceLaws.{next-stuck}
-use Rattle.drawing.proofs.MarkLaws.{byte-within}
+use Rattle.source.proofs.MarkLaws.{byte-within}
 use borrow.Author.Needs.{needs}
-use Rattle.drawing.proofs.next_place.Statement.{statement}
-use Rattle.drawing.proofs.next_place.Tie as tie
+use Rattle.source.proofs.next_place.Statement.{statement}
+use Rattle.source.proofs.next_place.Tie as tie
 
 one-mark-requires : tie.Need-one-mark-requires
 one-mark-requires c κs = search needs

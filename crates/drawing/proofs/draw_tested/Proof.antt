@@ -1,10 +1,10 @@
--- `wattleslate::drawn::draw_tested` meets its contract.
+-- `drawing::draw_tested` meets its contract.
 -- Assumes nothing.
 use lib.ListN.{length}
-use Rattle.wattleslate.proofs.DrawCases.{lined-small, lined-enough, put-as}
+use Rattle.drawing.proofs.SizeLaws.{lined-small, lined-enough, put-as}
 use borrow.Author.Needs.{needs}
-use Rattle.wattleslate.proofs.drawn.draw_tested.Statement.{statement}
-use Rattle.wattleslate.proofs.drawn.draw_tested.Tie as tie
+use Rattle.drawing.proofs.draw_tested.Statement.{statement}
+use Rattle.drawing.proofs.draw_tested.Tie as tie
 
 refuse-requires : tie.Need-refuse-requires
 refuse-requires c κs = search needs

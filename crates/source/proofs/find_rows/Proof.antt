@@ -1,4 +1,4 @@
--- `drawing::find_rows` meets its contract. The invariant: the rows up to the last one found start where they stand in the font, and `at` is
+-- `source::find_rows` meets its contract. The invariant: the rows up to the last one found start where they stand in the font, and `at` is
 -- where that one does.
 -- Assumes nothing.
 use mathlib.Core.Path.{_≡_, refl, sym, ap, _∙_, subst}
@@ -9,8 +9,8 @@ use borrow.Author.Needs.{needs}
 use Rattle.lines.specs.Lines.{lineEnd, nextStart, after}
 use Rattle.join.proofs.Rows.{set-next}
 use Rattle.request.proofs.PlaceLaws.{after-next, end-within, next-within}
-use Rattle.drawing.proofs.find_rows.Statement.{statement}
-use Rattle.drawing.proofs.find_rows.Tie as tie
+use Rattle.source.proofs.find_rows.Statement.{statement}
+use Rattle.source.proofs.find_rows.Tie as tie
 
 abbrev Inv-loop : tie.InvT-loop
 Inv-loop font start width h rows₀ last₀ at₀ rows last at = (last < h) × (at ≡ after last font start) × (length rows ≡ length rows₀) × ((i : ℕ) → i < last + 1 → getD rows i 0 ≡ after i font start)
