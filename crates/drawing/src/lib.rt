@@ -89,7 +89,17 @@ fn draw_code(
     requires { ⌜ RowAfterRow maxLineWidth height (now rows) ⌝ }
     ensures { λ w. ⌜ ((source : Source) → Gives source (now (font .entry)) height count (now (codes .entry)) (now (starts .entry)) (now (widths .entry)) (now (places .entry)) → Reached mode height limit w (now (area .exit)) (withCharacter mode height (source code) (scratchLine (mode .direction) n (now (area .entry))))) ⌝ }
 {
-    match source::choose(code, font, height, count, codes, starts, widths, places, found) {
+    match source::choose(
+        code,
+        font,
+        height,
+        count,
+        codes,
+        starts,
+        widths,
+        places,
+        found,
+    ) {
         Chosen::Character(width) => {
             let attached = figure::attach(area, rows, n, limit, mode, font, found, width, height);
             attached.width
