@@ -5,7 +5,7 @@ use native.Mathlib.Omega.{arith}
 use lib.ListN.{length}
 use borrow.Author.Tests.{not-true, not-false}
 use Rattle.wattleslate.specs.JoinCall.{joinTells}
-use Rattle.wattleslate.proofs.DrawCases.{wiped}
+use Rattle.drawing.proofs.SizeLaws.{wiped}
 use Rattle.capi.specs.Numbers.{packed, joinNumber}
 use Rattle.capi.proofs.Bounds.{pair-packs, join-packs, join-pairs}
 use Rattle.capi.proofs.JoinLaws.{illegal-told, illegal-area, legal-told, legal-area}
