@@ -40,11 +40,11 @@ module _ (o w : ℕ) where
   third false false true e = (refl, refl, refl)
   third false false false e = absurd (omega arith)
 
-  low : (a b c : Bool) → (fall a b c .number ≤ badShape) × (fall a b c .place ≡ 0)
-  low true b c = (omega arith, refl)
-  low false true c = (omega arith, refl)
-  low false false true = (omega arith, refl)
-  low false false false = (omega arith, refl)
+  low : (a b c : Bool) → fall a b c .refused ≡ true → (areaTooSmall ≤ fall a b c .number) × (fall a b c .number ≤ badShape) × (fall a b c .place ≡ 0)
+  low true b c e = (omega arith, omega arith, refl)
+  low false true c e = (omega arith, omega arith, refl)
+  low false false true e = (omega arith, omega arith, refl)
+  low false false false e = absurd (true≢false (sym e))
 
   none : (a b c : Bool) → fall a b c .refused ≡ false → (a ≡ false) × (b ≡ false) × (c ≡ false)
   none true b c e = absurd (true≢false e)
@@ -117,7 +117,7 @@ module _ (y : Mode) (h n : ℕ) (line : List ℕ) (m : ℕ) (character : List �
   joined-if e u v = rw (e, le-ltb 1000 width u, le-ltb room (h * width) v)
 
   -- no other number, and no place but 0
-  pub join-refusal : (answer .number ≤ badShape) × (answer .place ≡ 0)
+  pub join-refusal : answer .refused ≡ true → (areaTooSmall ≤ answer .number) × (answer .number ≤ badShape) × (answer .place ≡ 0)
   unfolding joinTold toldOf
   join-refusal = low (overlap y h left right) width (not shape) wide full
 
