@@ -13,7 +13,7 @@ use Rattle.reader.specs.declared.FontAnswer.{FontAnswer}
 use Rattle.reader.specs.declared.FontAnswer.the-variants.{Read, Refused}
 use Rattle.wattleslate.specs.ControlCall.{ControlTold}
 use Rattle.wattleslate.specs.DrawCall.{DrawTold}
-use Rattle.wattleslate.specs.JoinCall.{JoinTold, refusing, joinTold, joinArea}
+use Rattle.join.specs.JoinCall.{JoinTold, refusing, joinTold, joinArea}
 
 -- "A refusal answers its number and place": the number above 32 bits for the place. A success has 0 there, and its value below.
 abbrev pub packed : ℕ → ℕ → ℕ

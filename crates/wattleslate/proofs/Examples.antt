@@ -25,8 +25,8 @@ use Rattle.lanes.specs.Overlap.{laneFacing, facing, hasBlank, free, fitting, on
 use Rattle.lanes.specs.Joined.{joinedCells}
 use Rattle.join.specs.Join.{exactBlock, overlap, joinedAt, besides, rowsOf}
 use Rattle.join.specs.Shape.{goodBlock, goodShape}
-use Rattle.wattleslate.specs.declared.JoinAnswer.the-variants.{Joined}
-use Rattle.wattleslate.specs.JoinCall.{joinTells, toldOf, joinTold, joinArea}
+use Rattle.join.specs.declared.JoinAnswer.the-variants.{Joined}
+use Rattle.join.specs.JoinCall.{joinTells, toldOf, joinTold, joinArea}
 
 abbrev Rows : Type 0
 Rows = List String

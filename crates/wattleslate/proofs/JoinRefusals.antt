@@ -14,8 +14,8 @@ use Rattle.subchars.specs.declared.Mode.{Mode}
 use Rattle.join.specs.Join.{Block, exactBlock, leftOf, rightOf, overlap, besides}
 use Rattle.join.specs.Shape.{goodShape}
 use Rattle.join.proofs.Demand.{overlap-narrower}
-use Rattle.wattleslate.specs.declared.JoinAnswer.the-variants.{Joined}
-use Rattle.wattleslate.specs.JoinCall.{JoinTold, joinTells, refuseIf, toldOf, joinTold}
+use Rattle.join.specs.declared.JoinAnswer.the-variants.{Joined}
+use Rattle.join.specs.JoinCall.{JoinTold, joinTells, refuseIf, toldOf, joinTold}
 
 -- three refusals one after another, then an answer
 module _ (o w : ℕ) where

@@ -1,7 +1,6 @@
 // The public calls. Each is total: it tests its own input, and its `ensures` hold for every input.
 mod controlling;
 mod drawn;
-mod joining;
 
 // The types that the calls take and answer, and the two calls over a lent index.
 pub use chars::Entry;
@@ -15,6 +14,7 @@ use ground::refusals;
 pub use ground::refusals::Refusal;
 pub use header::Given;
 pub use header::Header;
+pub use join::JoinAnswer;
 pub use reader::FontAnswer;
 pub use reader::Use;
 use request::Requested;
@@ -28,8 +28,8 @@ pub use subchars::SubCharacter;
 ghost use mathlib.Core.Path.{_≡_};
 ghost use lib.ListN.{length};
 ghost use Rattle.ground.specs.Area.{zeros};
+ghost use Rattle.join.specs.JoinCall.{JoinGives};
 ghost use Rattle.flc.specs.Lists.{stageList, firstList, lastList, newList};
-ghost use Rattle.wattleslate.specs.JoinCall.{joinTells, joinTold, joinArea};
 ghost use Rattle.wattleslate.specs.LookUpCall.{lookUpTells, lookUpTold};
 ghost use Rattle.wattleslate.specs.RowCall.{rowTells, rowTold, rowBytes};
 ghost use Rattle.wattleslate.specs.ControlCall.{controlTells, controlReading, controlTold};
@@ -52,12 +52,6 @@ pub enum RowRefusal {
 // What mapping a code answers: the new code, or a refusal of the control file.
 pub enum MapAnswer {
     Mapped(Code),
-    Refused(Refusal),
-}
-
-// What a join answers: the overlap and the width of the result, or a refusal.
-pub enum JoinAnswer {
-    Joined { overlap: usize, width: usize },
     Refused(Refusal),
 }
 
@@ -155,44 +149,21 @@ pub fn join(
     direction: Direction,
     out: &mut [u8],
 ) -> JoinAnswer
-    ensures answer { λ r. ⌜ joinTells r ≡ joinTold (record { layout = layout; direction = direction; hardblank = hardblank }) height «line_width» (now (line .entry)) «character_width» (now (character .entry)) (length (now (out .entry))) ⌝ }
-    ensures area { λ r. ⌜ now (out .exit) ≡ joinArea (record { layout = layout; direction = direction; hardblank = hardblank }) height «line_width» (now (line .entry)) «character_width» (now (character .entry)) (length (now (out .entry))) ⌝ }
+    ensures { λ r. ⌜ JoinGives (record { layout = layout; direction = direction; hardblank = hardblank }) height «line_width» (now (line .entry)) «character_width» (now (character .entry)) (length (now (out .entry))) r (now (out .exit)) ⌝ }
 {
-    let mode = Mode {
-        layout,
-        direction,
-        hardblank,
-    };
-    if !join::shape::good_shape(
-        mode,
+    join::joining::join_to_line(
+        Mode {
+            layout,
+            direction,
+            hardblank,
+        },
         height,
+        line,
         line_width,
-        line.len(),
+        character,
         character_width,
-        character.len(),
-    ) {
-        return joining::refuse(refusals::BAD_SHAPE, out);
-    }
-    match direction {
-        Direction::LeftToRight => joining::join_blocks(
-            mode,
-            height,
-            line,
-            line_width,
-            character,
-            character_width,
-            out,
-        ),
-        Direction::RightToLeft => joining::join_blocks(
-            mode,
-            height,
-            character,
-            character_width,
-            line,
-            line_width,
-            out,
-        ),
-    }
+        out,
+    )
 }
 
 // Draws a line of text by a font and a control file, and writes it to `out`: each row with hardblanks as blanks, then LF, with zeros behind. The
