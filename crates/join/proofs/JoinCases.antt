@@ -1,6 +1,6 @@
 -- What a join answers and leaves, case by case of the code's tests.
 -- Assumes nothing.
-use mathlib.Core.Path.{_≡_, refl, sym, _∙_, ap}
+use mathlib.Core.Path.{_≡_, refl, _∙_, ap}
 use mathlib.Core.Bool.{true, false}
 use mathlib.Core.List.{List, _++_}
 use Prim.Native.Nat.{ℕ, _+_, _-_, _*_, _≤_, _<_}
@@ -28,10 +28,10 @@ zeros-area number f h room = let z : room ≡ room - 0 = omega arith in ap zeros
 module _ (y : Mode) (h : ℕ) (a b : Block) (room : ℕ) where
   -- what the definition tells is what was answered
   as-told : (r : JoinAnswer) (area : List ℕ) (t : JoinTold) → t ≡ toldOf y h a b room → joinTells r ≡ t → area ≡ areaOf t (besides y h a b) h room → BlocksGive y h a b room r area
-  as-told r area t e p q = record { answers = p ∙ e; holds = q ∙ ap (λ (s : JoinTold). areaOf s (besides y h a b) h room) e }
+  as-told r area t e p q = record { answer = p ∙ e; area = q ∙ ap (λ (s : JoinTold). areaOf s (besides y h a b) h room) e }
 
   refused : (number : ℕ) (r : JoinAnswer) (area : List ℕ) → Refuses number room r area → refusing number ≡ toldOf y h a b room → BlocksGive y h a b room r area
-  refused number r area g e = as-told r area (refusing number) e (g .answers) (g .holds ∙ zeros-area number (besides y h a b) h room)
+  refused number r area g e = as-told r area (refusing number) e (g .answer) (g .area ∙ zeros-area number (besides y h a b) h room)
 
   module _ (o : ℕ) (is : o ≡ overlap y h a b) where
     pub too-wide : maxLineWidth < joinedWidth o a b → (r : JoinAnswer) (area : List ℕ) → Refuses lineTooWide room r area → BlocksGive y h a b room r area
@@ -65,12 +65,12 @@ module _ (y : Mode) (h n : ℕ) (line : List ℕ) (m : ℕ) (character : List �
 
   pub bad : goodShape y h n (length line) m (length character) ≡ false → Refuses badShape room r area → JoinGives y h n line m character room r area
   unfolding joinTold joinArea
-  bad e g = record { answers = g .answers ∙ rw e; holds = g .holds ∙ rw e (zeros-area badShape (besides y h (left (y .direction)) (right (y .direction))) h room) }
+  bad e g = record { answer = g .answer ∙ rw e; area = g .area ∙ rw e (zeros-area badShape (besides y h (left (y .direction)) (right (y .direction))) h room) }
 
   pub good : goodShape y h n (length line) m (length character) ≡ true → (d : Direction) → y .direction ≡ d → BlocksGive y h (left d) (right d) room r area → JoinGives y h n line m character room r area
   unfolding joinTold joinArea
   good e d is g =
       record {
-        answers = g .answers ∙ rw (e, is);
-        holds = g .holds ∙ rw (e, is);
+        answer = g .answer ∙ rw (e, is);
+        area = g .area ∙ rw (e, is);
       }

@@ -60,16 +60,16 @@ joinArea y h n line m character room =
     let c = exactBlock m character in
     areaOf (joinTold y h n line m character room) (besides y h (leftOf (y .direction) l c) (rightOf (y .direction) l c)) h room
 
--- The answer and the area of a join.
-pub record JoinGives (y : Mode) (h n : ℕ) (line : List ℕ) (m : ℕ) (character : List ℕ) (room : ℕ) (answer : JoinAnswer) (area : List ℕ) : Type 0 where
-  pub answers : joinTells answer ≡ joinTold y h n line m character room
-  pub holds : area ≡ joinArea y h n line m character room
+-- What the call gives: its answer, and all that the lent area then holds.
+pub record JoinGives (y : Mode) (h n : ℕ) (line : List ℕ) (m : ℕ) (character : List ℕ) (room : ℕ) (r : JoinAnswer) (out : List ℕ) : Type 0 where
+  pub answer : joinTells r ≡ joinTold y h n line m character room
+  pub area : out ≡ joinArea y h n line m character room
 
 -- The same of two blocks of good shape, a on the left; and of a refusal.
-pub record BlocksGive (y : Mode) (h : ℕ) (a b : Block) (room : ℕ) (answer : JoinAnswer) (area : List ℕ) : Type 0 where
-  pub answers : joinTells answer ≡ toldOf y h a b room
-  pub holds : area ≡ areaOf (toldOf y h a b room) (besides y h a b) h room
+pub record BlocksGive (y : Mode) (h : ℕ) (a b : Block) (room : ℕ) (r : JoinAnswer) (out : List ℕ) : Type 0 where
+  pub answer : joinTells r ≡ toldOf y h a b room
+  pub area : out ≡ areaOf (toldOf y h a b room) (besides y h a b) h room
 
-pub record Refuses (number room : ℕ) (answer : JoinAnswer) (area : List ℕ) : Type 0 where
-  pub answers : joinTells answer ≡ refusing number
-  pub holds : area ≡ zeros room
+pub record Refuses (number room : ℕ) (r : JoinAnswer) (out : List ℕ) : Type 0 where
+  pub answer : joinTells r ≡ refusing number
+  pub area : out ≡ zeros room

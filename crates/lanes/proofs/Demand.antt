@@ -31,7 +31,7 @@ pub record Fits (h n m : ℕ) (a b : Cells) (f : ℕ) : Type 0 where
   -- and every other such overlap is smaller."
   pub fitting-largest : (o : ℕ) → o ≤ min n m → ((k : ℕ) → k ≤ o → free h n a b k ≡ true) → (o ≡ f → ⊥) → o < f
 
--- The overlap s is that of smushing by which the pairs of the test join, and f is fitting's.
+-- The overlap s is smushing's, where `joins` tells the pairs that the mode can join, and f is fitting's.
 pub record Smushes (joins : ℕ → ℕ → Bool) (h n m : ℕ) (a b : Cells) (f s : ℕ) : Type 0 where
   -- "Smushing either takes exactly one column more than fitting or stays at fitting's overlap."
   pub one-more-or-stays : (s ≡ f + 1) ⊎ (s ≡ f)
@@ -61,8 +61,8 @@ module _ (h n m : ℕ) (a b : Cells) where
         stays-only-if = laws.stays-only-if h n m a b joins;
       }
 
-  -- "If one controlled set has every rule of another, it never gives the same line and character a smaller overlap": nor does any test that
-  -- every pair of another passes.
+  -- "If one controlled set has every rule of another, it never gives the same line and character a smaller overlap": a mode that
+  -- joins every pair that another joins never does.
   pub more-joins-no-less : (p q : ℕ → ℕ → Bool) → ((l r : ℕ) → p l r ≡ true → q l r ≡ true) → smushing p h n m a b ≤ smushing q h n m a b
   more-joins-no-less p q more = laws.smushing-mono p q more h n m a b
 
@@ -86,7 +86,7 @@ pub record Taken (joins : ℕ → ℕ → Bool) (h n m : ℕ) (a b : Cells) (o :
   pub pairs-join : (r i : ℕ) → r < h → i < o → joins (a r (n - o + i)) (b r i) ≡ true
 
 -- The block c, with `len` positions to a lane, is what a and b become at overlap o.
-pub record Joined (joins : ℕ → ℕ → Bool) (becomes : ℕ → ℕ → ℕ) (h n m : ℕ) (a b : Cells) (o len : ℕ) (c : Cells) : Type 0 where
+pub record JoinedLanes (joins : ℕ → ℕ → Bool) (becomes : ℕ → ℕ → ℕ) (h n m : ℕ) (a b : Cells) (o len : ℕ) (c : Cells) : Type 0 where
   -- "The result width, the sum of both widths less the overlap";
   pub result-width : len ≡ n + m - o
   -- it is never below either width
@@ -94,10 +94,10 @@ pub record Joined (joins : ℕ → ℕ → Bool) (becomes : ℕ → ℕ → ℕ)
   -- "Unpaired sub-characters stay": those of a, and those of b
   pub left-stays : (r k : ℕ) → k < n - o → c r k ≡ a r k
   pub right-stays : (r k : ℕ) → n ≤ k → c r k ≡ b r (k - (n - o))
-  -- "a blank yields to its partner"
+  -- "A blank yields to its partner."
   pub left-blank-yields : (r k : ℕ) → n - o ≤ k → k < n → a r k ≡ blank → c r k ≡ b r (k - (n - o))
   pub right-blank-yields : (r k : ℕ) → n - o ≤ k → k < n → b r (k - (n - o)) ≡ blank → c r k ≡ a r k
-  -- "every other pair becomes its joint": it has one, and that is the cell
+  -- "Every other pair becomes its joint": it has one, and that is the cell.
   pub pair-joined : (r k : ℕ) → r < h → n - o ≤ k → k < n → joins (a r k) (b r (k - (n - o))) ≡ true
   pub joint-stands : (r k : ℕ) → n - o ≤ k → k < n → c r k ≡ becomes (a r k) (b r (k - (n - o)))
 
@@ -120,7 +120,7 @@ module _ (p : Pairing) (h n m : ℕ) (a b : Cells) where
         pairs-join = laws.facing-at (p .joins) h n a b (smushing (p .joins) h n m a b) (laws.smushing-joins h n m a b (p .joins) (p .blank-joins));
       }
 
-  pub joined : (o : ℕ) → Taken (p .joins) h n m a b o → Joined (p .joins) (p .becomes) h n m a b o (n + m - o) (joinedCells (p .becomes) n o a b)
+  pub joined : (o : ℕ) → Taken (p .joins) h n m a b o → JoinedLanes (p .joins) (p .becomes) h n m a b o (n + m - o) (joinedCells (p .becomes) n o a b)
   joined o t =
       let l = t .overlap-narrower in
       let pair = cell-pair (p .becomes) n o a b in

@@ -136,7 +136,7 @@ pub fn map_code(control: &[u8], code: Code) -> MapAnswer
     }
 }
 
-// Puts a FIGcharacter to a line of equal height, as the layout says, and writes the result to `out`, row after row with zeros behind.
+// Joins a FIGcharacter to a line of equal height as the layout says, and writes the result to `out`, row after row with zeros behind.
 // Writing left to right the character goes to the line's right, otherwise to its left. A refusal (17, 16, 9) leaves `out` all zeros.
 pub fn join(
     line: &[u8],

@@ -44,16 +44,16 @@ enum-known-overlap : tie.Need-enum-known-overlap
 enum-known-overlap c = search needs
 
 paired-requires : tie.Need-paired-requires
-paired-requires c κs = join-pairs _ _ _ _ _ _ _ _ _ (sym (ap joinTells (c .before .overlap .given .1)) ∙ c .before .before .before .before .before .join .ensures .answers)
+paired-requires c κs = join-pairs _ _ _ _ _ _ _ _ _ (sym (ap joinTells (c .before .overlap .given .1)) ∙ c .before .before .before .before .before .join .ensures .answer)
 
 packed-requires-2 : tie.Need-packed-requires-2
-packed-requires-2 c κs = pair-packs _ _ _ (c .paired .ensures) (join-pairs _ _ _ _ _ _ _ _ _ (sym (ap joinTells (c .before .before .overlap .given .1)) ∙ c .before .before .before .before .before .before .join .ensures .answers))
+packed-requires-2 c κs = pair-packs _ _ _ (c .paired .ensures) (join-pairs _ _ _ _ _ _ _ _ _ (sym (ap joinTells (c .before .before .overlap .given .1)) ∙ c .before .before .before .before .before .before .join .ensures .answer))
 
 enum-known-r : tie.Need-enum-known-r
 enum-known-r c = search needs
 
 packed-requires-3 : tie.Need-packed-requires-3
-packed-requires-3 c κs = join-packs _ _ _ _ _ _ _ _ (sym (ap joinTells (c .before .r .given .1)) ∙ c .before .before .before .before .before .join .ensures .answers)
+packed-requires-3 c κs = join-packs _ _ _ _ _ _ _ _ (sym (ap joinTells (c .before .r .given .1)) ∙ c .before .before .before .before .before .join .ensures .answer)
 
 same-length-2 : tie.Need-same-length-2
 same-length-2 c = search needs
@@ -63,8 +63,8 @@ returns-2 c =
     let a = c .before .before .before .before .before .before .before .before .before .before .before .before .before .before .before .before .args in
     let e = c .before .before .before .before .before .before .before .join .ensures in
     let is = sym (c .before .before .before .before .before .before .before .before .before .before .before .before .both .ensures) ∙ not-false _ (c .before .before .before .before .before .before .before .before .before .before .before .if1 .left) in (
-      c .packed2 .ensures ∙ ap (packed 0) (c .before .paired .ensures) ∙ ap joinNumber (sym (ap joinTells (c .before .before .before .overlap .given .1)) ∙ (e .answers ∙ legal-told (a .layout) (a .direction) (a .hardblank) (a .height) (a .line-width) (a .line .now) (a .character-width) (a .character .now) (length (a .out .now)) is _ _ (c .before .before .before .before .before .before .before .before .before .before .from-full .ensures) (c .before .before .before .before .before .before .before .before .before .from-print .ensures))),
-      e .holds ∙ legal-area (a .layout) (a .direction) (a .hardblank) (a .height) (a .line-width) (a .line .now) (a .character-width) (a .character .now) (length (a .out .now)) is _ _ (c .before .before .before .before .before .before .before .before .before .before .from-full .ensures) (c .before .before .before .before .before .before .before .before .before .from-print .ensures),
+      c .packed2 .ensures ∙ ap (packed 0) (c .before .paired .ensures) ∙ ap joinNumber (sym (ap joinTells (c .before .before .before .overlap .given .1)) ∙ (e .answer ∙ legal-told (a .layout) (a .direction) (a .hardblank) (a .height) (a .line-width) (a .line .now) (a .character-width) (a .character .now) (length (a .out .now)) is _ _ (c .before .before .before .before .before .before .before .before .before .before .from-full .ensures) (c .before .before .before .before .before .before .before .before .before .from-print .ensures))),
+      e .area ∙ legal-area (a .layout) (a .direction) (a .hardblank) (a .height) (a .line-width) (a .line .now) (a .character-width) (a .character .now) (length (a .out .now)) is _ _ (c .before .before .before .before .before .before .before .before .before .before .from-full .ensures) (c .before .before .before .before .before .before .before .before .before .from-print .ensures),
     )
 
 same-length-3 : tie.Need-same-length-3
@@ -75,8 +75,8 @@ returns-3 c =
     let a = c .before .before .before .before .before .before .before .before .before .before .before .before .before .before .before .args in
     let e = c .before .before .before .before .before .before .join .ensures in
     let is = sym (c .before .before .before .before .before .before .before .before .before .before .before .both .ensures) ∙ not-false _ (c .before .before .before .before .before .before .before .before .before .before .if1 .left) in (
-      c .packed3 .ensures ∙ ap joinNumber (sym (ap joinTells (c .before .before .r .given .1)) ∙ (e .answers ∙ legal-told (a .layout) (a .direction) (a .hardblank) (a .height) (a .line-width) (a .line .now) (a .character-width) (a .character .now) (length (a .out .now)) is _ _ (c .before .before .before .before .before .before .before .before .before .from-full .ensures) (c .before .before .before .before .before .before .before .before .from-print .ensures))),
-      e .holds ∙ legal-area (a .layout) (a .direction) (a .hardblank) (a .height) (a .line-width) (a .line .now) (a .character-width) (a .character .now) (length (a .out .now)) is _ _ (c .before .before .before .before .before .before .before .before .before .from-full .ensures) (c .before .before .before .before .before .before .before .before .from-print .ensures),
+      c .packed3 .ensures ∙ ap joinNumber (sym (ap joinTells (c .before .before .r .given .1)) ∙ (e .answer ∙ legal-told (a .layout) (a .direction) (a .hardblank) (a .height) (a .line-width) (a .line .now) (a .character-width) (a .character .now) (length (a .out .now)) is _ _ (c .before .before .before .before .before .before .before .before .before .from-full .ensures) (c .before .before .before .before .before .before .before .before .from-print .ensures))),
+      e .area ∙ legal-area (a .layout) (a .direction) (a .hardblank) (a .height) (a .line-width) (a .line .now) (a .character-width) (a .character .now) (length (a .out .now)) is _ _ (c .before .before .before .before .before .before .before .before .before .from-full .ensures) (c .before .before .before .before .before .before .before .before .from-print .ensures),
     )
 
 pub wattleslate-join-spec : {M : Type 1} → statement M

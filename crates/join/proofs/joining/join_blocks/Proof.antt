@@ -9,7 +9,7 @@ use Rattle.join.proofs.Demand.{overlap-narrower}
 use Rattle.join.proofs.GoodShape.{small}
 use Rattle.join.proofs.Likeness.{overlap-like}
 use Rattle.join.proofs.Rows.{inside, rows-seen}
-use Rattle.join.specs.Join.{Block, exactBlock, overlap, besides}
+use Rattle.join.specs.Join.{Block, exactBlock, overlap}
 use Rattle.join.proofs.JoinCases.{too-wide, no-room, done}
 use Rattle.join.proofs.joining.join_blocks.Statement.{statement}
 use Rattle.join.proofs.joining.join_blocks.Tie as tie

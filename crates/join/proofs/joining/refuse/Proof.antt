@@ -19,7 +19,7 @@ returns : tie.Need-returns
 returns c =
     let n = length (c .before .before .before .before .before .args .out .now) in
     let e : n - 0 ≡ n = omega arith in
-    record { answers = refl; holds = c .before .before .zero-from .ensures ∙ ap zeros e }
+    record { answer = refl; area = c .before .before .zero-from .ensures ∙ ap zeros e }
 
 pub refuse-spec : {M : Type 1} → statement M
 refuse-spec = tie.close (tie.spec zero-from-requires same-length returns)
