@@ -23,9 +23,9 @@ use Rattle.flc.proofs.RefusalLaws.{control-refusal}
 use Rattle.flc.proofs.CountLaws.{control-few}
 use Rattle.figure.specs.declared.DrawAnswer.{DrawAnswer}
 use Rattle.figure.specs.declared.DrawAnswer.the-variants as draw-is
-use Rattle.wattleslate.specs.declared.JoinAnswer.the-variants as join-is
+use Rattle.join.specs.declared.JoinAnswer.the-variants as join-is
 use Rattle.wattleslate.specs.DrawCall.{drawTells, drawTold}
-use Rattle.wattleslate.specs.JoinCall.{JoinTold, joinTells, joinTold}
+use Rattle.join.specs.JoinCall.{JoinTold, joinTells, joinTold}
 use Rattle.wattleslate.proofs.ToldApart.{draw-apart}
 use Rattle.wattleslate.proofs.DrawRefusals.{DrawsTo, scratch-small, font-refused, control-refused, text-too-long, line-too-wide, output-small, draws, drawAnswer, only-so, always}
 use Rattle.wattleslate.proofs.JoinRefusals.{join-refusal, joined-within}

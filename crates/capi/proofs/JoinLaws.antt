@@ -10,7 +10,7 @@ use Rattle.subchars.specs.declared.Direction.{Direction}
 use Rattle.subchars.specs.declared.Layout.{Layout}
 use Rattle.subchars.specs.declared.Mode.{Mode}
 use Rattle.subchars.specs.Layouts.{fullLayout, printDirection}
-use Rattle.wattleslate.specs.JoinCall.{JoinTold, refusing, joinTold, joinArea}
+use Rattle.join.specs.JoinCall.{JoinTold, refusing, joinTold, joinArea}
 use Rattle.capi.specs.Numbers.{legalMode, modeBy, joinTaken, joinLeft}
 
 module _ (layout direction hardblank h n : ℕ) (line : List ℕ) (m : ℕ) (character : List ℕ) (room : ℕ) where

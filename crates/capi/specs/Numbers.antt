@@ -13,7 +13,7 @@ use Rattle.reader.specs.declared.FontAnswer.{FontAnswer}
 use Rattle.reader.specs.declared.FontAnswer.the-variants.{Read, Refused}
 use Rattle.wattleslate.specs.ControlCall.{ControlTold}
 use Rattle.wattleslate.specs.DrawCall.{DrawTold}
-use Rattle.wattleslate.specs.JoinCall.{JoinTold, refusing, joinTold, joinArea}
+use Rattle.join.specs.JoinCall.{JoinTold, refusing, joinTold, joinArea}
 
 -- A value is below this, as is a refusal's number: 16 bits.
 abbrev pub valueBound : ℕ

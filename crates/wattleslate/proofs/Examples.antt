@@ -22,10 +22,11 @@ use Rattle.subchars.specs.declared.Joint.the-variants.{ByUniversal, ByRule, Unj
 use Rattle.subchars.specs.Layouts.{oldLayout, fullLayout}
 use Rattle.subchars.specs.Pair.{legalHardblank, joinedIf, orElse, equalCharacter, underscore, classOf, hierarchy, opposite, oppositePair, bigX, controlled, universal, joint, joins}
 use Rattle.lanes.specs.Overlap.{laneFacing, facing, hasBlank, free, fitting, oneMore, smushing}
+use Rattle.lanes.specs.Joined.{joinedCells}
 use Rattle.join.specs.Join.{exactBlock, overlap, joinedAt, besides, rowsOf}
 use Rattle.join.specs.Shape.{goodBlock, goodShape}
-use Rattle.wattleslate.specs.declared.JoinAnswer.the-variants.{Joined}
-use Rattle.wattleslate.specs.JoinCall.{joinTells, toldOf, joinTold, joinArea}
+use Rattle.join.specs.declared.JoinAnswer.the-variants.{Joined}
+use Rattle.join.specs.JoinCall.{joinTells, toldOf, joinTold, joinArea}
 
 abbrev Rows : Type 0
 Rows = List String
@@ -108,7 +109,7 @@ examples =
 
 -- all of them hold
 examples-hold : All examples
-unfolding All Holds examples values every reach legalHardblank joinedIf orElse equalCharacter underscore classOf hierarchy opposite oppositePair bigX controlled universal joint joins fullLayout laneFacing facing hasBlank fitting oneMore smushing overlap joinedAt besides rowsOf goodBlock goodShape toldOf joinTold joinArea
+unfolding All Holds examples values every reach legalHardblank joinedIf orElse equalCharacter underscore classOf hierarchy opposite oppositePair bigX controlled universal joint joins fullLayout laneFacing facing hasBlank fitting oneMore smushing overlap joinedCells joinedAt besides rowsOf goodBlock goodShape toldOf joinTold joinArea
 examples-hold = (
   refl,
   (

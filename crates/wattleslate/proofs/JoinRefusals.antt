@@ -14,8 +14,8 @@ use Rattle.subchars.specs.declared.Mode.{Mode}
 use Rattle.join.specs.Join.{Block, exactBlock, leftOf, rightOf, overlap, besides}
 use Rattle.join.specs.Shape.{goodShape}
 use Rattle.join.proofs.Demand.{overlap-narrower}
-use Rattle.wattleslate.specs.declared.JoinAnswer.the-variants.{Joined}
-use Rattle.wattleslate.specs.JoinCall.{JoinTold, joinTells, refuseIf, toldOf, joinTold}
+use Rattle.join.specs.declared.JoinAnswer.the-variants.{Joined}
+use Rattle.join.specs.JoinCall.{JoinTold, joinTells, refuseIf, toldOf, joinTold}
 
 -- three refusals one after another, then an answer
 module _ (o w : ℕ) where
@@ -88,33 +88,33 @@ module _ (y : Mode) (h n : ℕ) (line : List ℕ) (m : ℕ) (character : List �
   unfolding joinTold toldOf
   too-wide-only e =
       let w = second (overlap y h left right) width (not shape) wide full e in
-      (not-false shape (w .0), ltb-true 1000 width (w .1))
+      (not-false shape (w .0), ltb-true maxLineWidth width (w .1))
 
   pub too-wide-if : shape ≡ true → maxLineWidth < width → answer .number ≡ lineTooWide
   unfolding joinTold toldOf
-  too-wide-if e u = rw (e, lt-ltb 1000 width u)
+  too-wide-if e u = rw (e, lt-ltb maxLineWidth width u)
 
   -- 9, "a lent area is too small", exactly where neither is given and the rows do not fit
   pub too-small-only : answer .number ≡ areaTooSmall → (shape ≡ true) × (width ≤ maxLineWidth) × (room < h * width)
   unfolding joinTold toldOf
   too-small-only e =
       let w = third (overlap y h left right) width (not shape) wide full e in
-      (not-false shape (w .0), ltb-false 1000 width (w .1), ltb-true room (h * width) (w .2))
+      (not-false shape (w .0), ltb-false maxLineWidth width (w .1), ltb-true room (h * width) (w .2))
 
   pub too-small-if : shape ≡ true → width ≤ maxLineWidth → room < h * width → answer .number ≡ areaTooSmall
   unfolding joinTold toldOf
-  too-small-if e u v = rw (e, le-ltb 1000 width u, lt-ltb room (h * width) v)
+  too-small-if e u v = rw (e, le-ltb maxLineWidth width u, lt-ltb room (h * width) v)
 
   -- joined, with the overlap and the width of demand 3, exactly where none of them is given
   pub joined-only : answer .refused ≡ false → (shape ≡ true) × (width ≤ maxLineWidth) × (h * width ≤ room)
   unfolding joinTold toldOf
   joined-only e =
       let w = none (overlap y h left right) width (not shape) wide full e in
-      (not-false shape (w .0), ltb-false 1000 width (w .1), ltb-false room (h * width) (w .2))
+      (not-false shape (w .0), ltb-false maxLineWidth width (w .1), ltb-false room (h * width) (w .2))
 
   pub joined-if : shape ≡ true → width ≤ maxLineWidth → h * width ≤ room → answer ≡ joinTells (Joined (overlap y h left right) width)
   unfolding joinTold toldOf
-  joined-if e u v = rw (e, le-ltb 1000 width u, le-ltb room (h * width) v)
+  joined-if e u v = rw (e, le-ltb maxLineWidth width u, le-ltb room (h * width) v)
 
   -- no other number, and no place but 0
   pub join-refusal : answer .refused ≡ true → (areaTooSmall ≤ answer .number) × (answer .number ≤ badShape) × (answer .place ≡ 0)

@@ -1,5 +1,4 @@
 -- The laws of the public calls.
-pub mod JoinCases
 pub mod Examples
 pub mod JoinRefusals
 pub mod LookUpLaws

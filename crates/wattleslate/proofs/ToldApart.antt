@@ -6,15 +6,15 @@ use Rattle.figure.specs.declared.DrawAnswer.{DrawAnswer}
 use Rattle.figure.specs.declared.DrawAnswer.the-variants as draw-is
 use Rattle.flc.specs.declared.ControlAnswer.{ControlAnswer}
 use Rattle.flc.specs.declared.ControlAnswer.the-variants as control-is
-use Rattle.wattleslate.specs.declared.JoinAnswer.{JoinAnswer}
-use Rattle.wattleslate.specs.declared.JoinAnswer.the-variants as join-is
+use Rattle.join.specs.declared.JoinAnswer.{JoinAnswer}
+use Rattle.join.specs.declared.JoinAnswer.the-variants as join-is
 use Rattle.wattleslate.specs.declared.LookUpAnswer.{LookUpAnswer}
 use Rattle.wattleslate.specs.declared.LookUpAnswer.the-variants as look-up-is
 use Rattle.wattleslate.specs.declared.MapAnswer.{MapAnswer}
 use Rattle.wattleslate.specs.declared.MapAnswer.the-variants as map-is
 use Rattle.wattleslate.specs.declared.RowRefusal.{RowRefusal}
 use Rattle.wattleslate.specs.declared.RowRefusal.the-variants as row-is
-use Rattle.wattleslate.specs.JoinCall.{JoinTold, joinTells}
+use Rattle.join.specs.JoinCall.{JoinTold, joinTells}
 use Rattle.wattleslate.specs.LookUpCall.{LookUpTold, lookUpTells}
 use Rattle.wattleslate.specs.RowCall.{RowTold, rowTells}
 use Rattle.wattleslate.specs.ControlCall.{ControlTold, controlTells}

@@ -1,6 +1,5 @@
 // The public calls. Each is total: it tests its own input, and its `ensures` hold for every input.
 mod controlling;
-mod joining;
 
 // The types that the calls take and answer, and the two calls over a lent index.
 pub use chars::Entry;
@@ -14,6 +13,7 @@ use ground::refusals;
 pub use ground::refusals::Refusal;
 pub use header::Given;
 pub use header::Header;
+pub use join::JoinAnswer;
 pub use reader::FontAnswer;
 pub use reader::Use;
 use request::Requested;
@@ -27,8 +27,8 @@ pub use subchars::SubCharacter;
 ghost use mathlib.Core.Path.{_≡_};
 ghost use lib.ListN.{length};
 ghost use Rattle.ground.specs.Area.{zeros};
+ghost use Rattle.join.specs.JoinCall.{JoinGives};
 ghost use Rattle.flc.specs.Lists.{stageList, firstList, lastList, newList};
-ghost use Rattle.wattleslate.specs.JoinCall.{joinTells, joinTold, joinArea};
 ghost use Rattle.wattleslate.specs.LookUpCall.{lookUpTells, lookUpTold};
 ghost use Rattle.wattleslate.specs.RowCall.{rowTells, rowTold, rowBytes};
 ghost use Rattle.wattleslate.specs.ControlCall.{controlTells, controlReading, controlTold};
@@ -51,12 +51,6 @@ pub enum RowRefusal {
 // What mapping a code answers: the new code, or a refusal of the control file.
 pub enum MapAnswer {
     Mapped(Code),
-    Refused(Refusal),
-}
-
-// What a join answers: the overlap and the width of the result, or a refusal.
-pub enum JoinAnswer {
-    Joined { overlap: usize, width: usize },
     Refused(Refusal),
 }
 
@@ -141,7 +135,7 @@ pub fn map_code(control: &[u8], code: Code) -> MapAnswer
     }
 }
 
-// Puts a FIGcharacter to a line of equal height, as the layout says, and writes the result to `out`, row after row with zeros behind.
+// Joins a FIGcharacter to a line of equal height as the layout says, and writes the result to `out`, row after row with zeros behind.
 // Writing left to right the character goes to the line's right, otherwise to its left. A refusal (17, 16, 9) leaves `out` all zeros.
 pub fn join(
     line: &[u8],
@@ -154,44 +148,21 @@ pub fn join(
     direction: Direction,
     out: &mut [u8],
 ) -> JoinAnswer
-    ensures answer { λ r. ⌜ joinTells r ≡ joinTold (record { layout = layout; direction = direction; hardblank = hardblank }) height «line_width» (now (line .entry)) «character_width» (now (character .entry)) (length (now (out .entry))) ⌝ }
-    ensures area { λ r. ⌜ now (out .exit) ≡ joinArea (record { layout = layout; direction = direction; hardblank = hardblank }) height «line_width» (now (line .entry)) «character_width» (now (character .entry)) (length (now (out .entry))) ⌝ }
+    ensures { λ r. ⌜ JoinGives (record { layout = layout; direction = direction; hardblank = hardblank }) height «line_width» (now (line .entry)) «character_width» (now (character .entry)) (length (now (out .entry))) r (now (out .exit)) ⌝ }
 {
-    let mode = Mode {
-        layout,
-        direction,
-        hardblank,
-    };
-    if !join::shape::good_shape(
-        mode,
+    join::joining::join_to_line(
+        Mode {
+            layout,
+            direction,
+            hardblank,
+        },
         height,
+        line,
         line_width,
-        line.len(),
+        character,
         character_width,
-        character.len(),
-    ) {
-        return joining::refuse(refusals::BAD_SHAPE, out);
-    }
-    match direction {
-        Direction::LeftToRight => joining::join_blocks(
-            mode,
-            height,
-            line,
-            line_width,
-            character,
-            character_width,
-            out,
-        ),
-        Direction::RightToLeft => joining::join_blocks(
-            mode,
-            height,
-            character,
-            character_width,
-            line,
-            line_width,
-            out,
-        ),
-    }
+        out,
+    )
 }
 
 // Draws a line of text by a font and a control file, and writes it to `out`: each row with hardblanks as blanks, then LF, with zeros behind. The

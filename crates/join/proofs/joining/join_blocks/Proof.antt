@@ -1,18 +1,18 @@
--- `wattleslate::joining::join_blocks` meets its contract.
+-- `join::joining::join_blocks` meets its contract.
 -- Assumes nothing.
 use mathlib.Core.Path.{_≡_, _∙_}
 use Prim.Native.Nat.{ℕ, _≤_, _-_, _+_, min}
 use native.Mathlib.Omega.{arith}
 use lib.ListN.{length}
 use borrow.Author.Needs.{needs}
 use Rattle.join.proofs.Demand.{overlap-narrower}
 use Rattle.join.proofs.GoodShape.{small}
 use Rattle.join.proofs.Likeness.{overlap-like}
 use Rattle.join.proofs.Rows.{inside, rows-seen}
-use Rattle.join.specs.Join.{Block, exactBlock, overlap, besides}
-use Rattle.wattleslate.proofs.JoinCases.{too-wide, no-room, done, rows-area, zeros-area}
-use Rattle.wattleslate.proofs.joining.join_blocks.Statement.{statement}
-use Rattle.wattleslate.proofs.joining.join_blocks.Tie as tie
+use Rattle.join.specs.Join.{Block, exactBlock, overlap}
+use Rattle.join.proofs.JoinCases.{too-wide, no-room, done}
+use Rattle.join.proofs.joining.join_blocks.Statement.{statement}
+use Rattle.join.proofs.joining.join_blocks.Tie as tie
 
 abbrev left-of : tie.Start → Block
 left-of s = exactBlock (s .args .n) (s .args .left .now)
@@ -86,10 +86,7 @@ returns : tie.Need-returns
 returns c =
     let p = c .before .before .before .before .before in
     let s = start p in
-    let r = c .before .before .refuse .ensures in (
-      r .0 ∙ too-wide (s .args .mode) (s .args .h) (left-of s) (right-of s) (room p) (p .overlap-of .result) (is p) (c .before .before .before .before .if1 .taken),
-      r .1 ∙ zeros-area _ 16 (besides (s .args .mode) (s .args .h) (left-of s) (right-of s)) (s .args .h) (room p) (r .0),
-    )
+    too-wide (s .args .mode) (s .args .h) (left-of s) (right-of s) (room p) (p .overlap-of .result) (is p) (c .before .before .before .before .if1 .taken) _ _ (c .before .before .refuse .ensures)
 
 mul-if2 : tie.Need-mul-if2
 mul-if2 c =
@@ -106,10 +103,7 @@ returns-2 : tie.Need-returns-2
 returns-2 c =
     let p = c .before .before .before .before .before .before in
     let s = start p in
-    let r = c .before .before .refuse2 .ensures in (
-      r .0 ∙ no-room (s .args .mode) (s .args .h) (left-of s) (right-of s) (room p) (p .overlap-of .result) (is p) (c .before .before .before .before .before .if1 .left) (c .before .before .before .before .if2 .taken),
-      r .1 ∙ zeros-area _ 9 (besides (s .args .mode) (s .args .h) (left-of s) (right-of s)) (s .args .h) (room p) (r .0),
-    )
+    no-room (s .args .mode) (s .args .h) (left-of s) (right-of s) (room p) (p .overlap-of .result) (is p) (c .before .before .before .before .before .if1 .left) (c .before .before .before .before .if2 .taken) _ _ (c .before .before .refuse2 .ensures)
 
 write-rows-requires : tie.Need-write-rows-requires
 write-rows-requires c κs =
@@ -135,10 +129,8 @@ returns-3 : tie.Need-returns-3
 returns-3 c =
     let p = c .before .before .before .before .before .before .before .before .before .before in
     let s = start p in
-    let w = c .before .before .before .before .before .before .write-rows in (
-      done (s .args .mode) (s .args .h) (left-of s) (right-of s) (room p) (p .overlap-of .result) (is p) (c .before .before .before .before .before .before .before .before .before .if1 .left) (c .before .before .before .before .before .before .before .before .if2 .left),
-      c .before .before .zero-from .ensures ∙ rows-area (s .args .mode) (s .args .h) (left-of s) (right-of s) (room p) (p .overlap-of .result) (is p) (w .last .0) (w .kept .0) (w .ensures),
-    )
+    let w = c .before .before .before .before .before .before .write-rows in
+    done (s .args .mode) (s .args .h) (left-of s) (right-of s) (room p) (p .overlap-of .result) (is p) (c .before .before .before .before .before .before .before .before .before .if1 .left) (c .before .before .before .before .before .before .before .before .if2 .left) (w .last .0) _ (w .kept .0) (w .ensures) (c .before .before .zero-from .ensures)
 
 pub join-blocks-spec : {M : Type 1} → statement M
 join-blocks-spec =

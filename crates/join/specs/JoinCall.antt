@@ -1,19 +1,19 @@
--- The call `join`: what it answers and what its area holds, for every input.
+-- The call `join`: what it answers and what the lent area then holds, for every input.
 -- Assumes nothing.
 use mathlib.Core.Path.{_≡_}
-use Prim.Native.Nat.{ℕ, _*_, _≤_}
+use Prim.Native.Nat.{ℕ, _*_}
 use mathlib.Core.Bool.{Bool, true, false, cond, not}
 use mathlib.Core.List.{List, []}
 use lib.Dec.{ltb}
 use lib.ListN.{length}
-use Rattle.ground.specs.Area.{padded}
-use Rattle.ground.specs.Limits.{maxHeight, maxLineWidth}
+use Rattle.ground.specs.Area.{zeros, padded}
+use Rattle.ground.specs.Limits.{maxLineWidth}
 use Rattle.ground.specs.Refusals.{areaTooSmall, lineTooWide, badShape}
 use Rattle.subchars.specs.declared.Mode.{Mode}
 use Rattle.join.specs.Join.{Block, exactBlock, leftOf, rightOf, overlap, besides, rowsOf}
 use Rattle.join.specs.Shape.{goodShape}
-use Rattle.wattleslate.specs.declared.JoinAnswer.{JoinAnswer}
-use Rattle.wattleslate.specs.declared.JoinAnswer.the-variants.{Joined, Refused}
+use Rattle.join.specs.declared.JoinAnswer.{JoinAnswer}
+use Rattle.join.specs.declared.JoinAnswer.the-variants.{Joined, Refused}
 
 -- What an answer tells. "A refusal answers its number and place (0 where none is named); other numbers are 0."
 pub record JoinTold : Type 0 where
@@ -60,8 +60,16 @@ joinArea y h n line m character room =
     let c = exactBlock m character in
     areaOf (joinTold y h n line m character room) (besides y h (leftOf (y .direction) l c) (rightOf (y .direction) l c)) h room
 
--- A block of h rows of width w, sizes that were tested.
-pub record Sized (h w : ℕ) (block : List ℕ) : Type 0 where
-  pub high : h ≤ maxHeight
-  pub wide : w ≤ maxLineWidth
-  pub exact : length block ≡ h * w
+-- What the call gives: its answer, and all that the lent area then holds.
+pub record JoinGives (y : Mode) (h n : ℕ) (line : List ℕ) (m : ℕ) (character : List ℕ) (room : ℕ) (r : JoinAnswer) (out : List ℕ) : Type 0 where
+  pub answer : joinTells r ≡ joinTold y h n line m character room
+  pub area : out ≡ joinArea y h n line m character room
+
+-- The same of two blocks of good shape, a on the left; and of a refusal.
+pub record BlocksGive (y : Mode) (h : ℕ) (a b : Block) (room : ℕ) (r : JoinAnswer) (out : List ℕ) : Type 0 where
+  pub answer : joinTells r ≡ toldOf y h a b room
+  pub area : out ≡ areaOf (toldOf y h a b room) (besides y h a b) h room
+
+pub record Refuses (number room : ℕ) (r : JoinAnswer) (out : List ℕ) : Type 0 where
+  pub answer : joinTells r ≡ refusing number
+  pub area : out ≡ zeros room
