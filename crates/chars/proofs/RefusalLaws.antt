@@ -14,7 +14,7 @@ use Rattle.ground.specs.Refusals.{refusal, badCodeTag, tooManyCharacters}
 use Rattle.ground.proofs.Tests.{clash}
 use Rattle.ground.specs.Limits.{maxCharacters}
 use Rattle.subchars.specs.declared.Code.{Code}
-use Rattle.lines.specs.Lines.{linesFrom, textAt, nextStart, after}
+use Rattle.lines.specs.Lines.{linesFrom, textAt, nextStart, cursor, after}
 use Rattle.lines.specs.Words.{firstWord}
 use Rattle.lines.specs.Numbers.{codeNumber}
 use Rattle.lines.specs.declared.numbers.CodeNumber.{CodeNumber}
@@ -73,7 +73,7 @@ listed-number : (f : Format) (s : List ℕ) (at : ℕ) (c : Code) → number-of 
 unfolding listedAt charAt number-of
 listed-number f s at c = go (characterRows f (length s) (linesFrom s at)) refl
   where
-    go : (v : Rows) → characterRows f (length s) (linesFrom s at) ≡ v → number-of (listedThen (charThen v (after (lineCount f) s at)) c at) ≤ 6
+    go : (v : Rows) → characterRows f (length s) (linesFrom s at) ≡ v → number-of (listedThen (charThen v (cursor (after (lineCount f) s at))) c at) ≤ 6
     go (read w) e = omega arith
     go (refused r) e = refused-numbers f (length s) (linesFrom s at) r e .1
 
@@ -90,7 +90,7 @@ module _ (f : Format) (s : List ℕ) (at n : ℕ) where
       go true h = ltb-true at (length s) h
       go false h = absurd (true≢false (sym (blank-all s at (ltb-false at (length s) h)) ∙ e))
 
-  due-is : (d : TagDue) → nextAt f s at n ≡ taggedThen (tagThen (tagOf (textAt s at)) (nextStart s at)) f s at n
+  due-is : (d : TagDue) → nextAt f s at n ≡ taggedThen (tagThen (tagOf (textAt s at)) (cursor (nextStart s at))) f s at n
   unfolding nextAt taggedAt tagAt
   due-is d =
       ap (λ (cs : List ℕ). nextOf cs f s at n) (none-required n (d .required)) ∙
@@ -116,7 +116,7 @@ module _ (f : Format) (s : List ℕ) (at n : ℕ) where
           by k (blankFrom s at) refl (omega arith)
 
   -- a good tag is no reason for 7
-  good-tag : (c : Code) (p : ℕ) → taggedThen (tagThen (Tag c) (nextStart s at)) f s at n ≡ Stopped (refusal badCodeTag p) → ⊥
+  good-tag : (c : Code) (p : ℕ) → taggedThen (tagThen (Tag c) (cursor (nextStart s at))) f s at n ≡ Stopped (refusal badCodeTag p) → ⊥
   unfolding number-of
   good-tag c p e = go (ltb n maxCharacters) (ap number-of e)
     where
@@ -129,7 +129,7 @@ module _ (f : Format) (s : List ℕ) (at n : ℕ) where
   unfolding number-of place-of
   refused-7 p = (to, from)
     where
-      by : TagDue → (t : TagStep) → tagOf (textAt s at) ≡ t → taggedThen (tagThen t (nextStart s at)) f s at n ≡ Stopped (refusal badCodeTag p) → TagDue × BadCode (textAt s at) × (p ≡ at)
+      by : TagDue → (t : TagStep) → tagOf (textAt s at) ≡ t → taggedThen (tagThen t (cursor (nextStart s at))) f s at n ≡ Stopped (refusal badCodeTag p) → TagDue × BadCode (textAt s at) × (p ≡ at)
       by d BadTag q e = (d, bad-exactly (textAt s at) .0 q, sym (ap place-of e))
       by d (Tag c) q e = absurd (good-tag c p e)
 
@@ -141,7 +141,7 @@ module _ (f : Format) (s : List ℕ) (at n : ℕ) where
 
       from : TagDue × BadCode (textAt s at) × (p ≡ at) → nextAt f s at n ≡ Stopped (refusal badCodeTag p)
       from w =
-          due-is (w .0) ∙ ap (λ (t : TagStep). taggedThen (tagThen t (nextStart s at)) f s at n) (bad-exactly (textAt s at) .1 (w .1)) ∙
+          due-is (w .0) ∙ ap (λ (t : TagStep). taggedThen (tagThen t (cursor (nextStart s at))) f s at n) (bad-exactly (textAt s at) .1 (w .1)) ∙
           ap (λ (j : ℕ). Stopped (refusal badCodeTag j)) (sym (w .2))
 
   -- 8: "a 513th character", at the "start of its tag line", which is good
@@ -160,7 +160,7 @@ module _ (f : Format) (s : List ℕ) (at n : ℕ) where
       room d c q true b e = let m = ap number-of e in absurd (omega (arith, listed-number f s (nextStart s at) c))
       room d c q false b e = (record { due = d; tag = c; good = q; many = ltb-false n maxCharacters b }, sym (ap place-of e))
 
-      by : TagDue → (t : TagStep) → tagOf (textAt s at) ≡ t → taggedThen (tagThen t (nextStart s at)) f s at n ≡ Stopped (refusal tooManyCharacters p) → TooMany × (p ≡ at)
+      by : TagDue → (t : TagStep) → tagOf (textAt s at) ≡ t → taggedThen (tagThen t (cursor (nextStart s at))) f s at n ≡ Stopped (refusal tooManyCharacters p) → TooMany × (p ≡ at)
       by d BadTag q e = let m = ap number-of e in absurd (omega arith)
       by d (Tag c) q e = room d c q (ltb n maxCharacters) refl e
 
@@ -172,5 +172,5 @@ module _ (f : Format) (s : List ℕ) (at n : ℕ) where
 
       from : TooMany × (p ≡ at) → nextAt f s at n ≡ Stopped (refusal tooManyCharacters p)
       from w =
-          due-is (w .0 .due) ∙ ap (λ (t : TagStep). taggedThen (tagThen t (nextStart s at)) f s at n) (w .0 .good) ∙
+          due-is (w .0 .due) ∙ ap (λ (t : TagStep). taggedThen (tagThen t (cursor (nextStart s at))) f s at n) (w .0 .good) ∙
           simp (le-ltb n maxCharacters (w .0 .many)) (ap (λ (j : ℕ). Stopped (refusal tooManyCharacters j)) (sym (w .1)))

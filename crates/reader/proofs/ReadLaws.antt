@@ -8,6 +8,7 @@ use lib.IntN.{ℤ}
 use lib.ListN.{length}
 use Rattle.ground.specs.declared.refusals.Refusal.{Refusal}
 use Rattle.ground.proofs.Tests.{clash}
+use Rattle.lines.specs.declared.Cursor.{Cursor}
 use Rattle.header.specs.declared.Header.{Header}
 use Rattle.chars.specs.Chars.{Ending, finished, stopped, Listing}
 use Rattle.font.specs.declared.Opening.the-variants.{Open, Closed}
@@ -56,8 +57,8 @@ module _ (codes : List ℤ) (starts widths : List ℕ) where
     behind-failed q p = failed h (listingAt (format h) s at) q (indexed (Failed q) p)
 
   module _ (s : List ℕ) where
-    pub opened : (h : Header) (at : ℕ) (r : FontAnswer) → Open h at ≡ openAt s → Behind h s at r codes starts widths → ReadInto (reading s) r codes starts widths
-    opened h at r p b = subst (λ (m : FontReading). ReadInto m r codes starts widths) (sym (open-reads s ∙ ap (readFrom s) (sym p))) b
+    pub opened : (h : Header) (next : Cursor) (r : FontAnswer) → Open h next ≡ openAt s → Behind h s (next .at) r codes starts widths → ReadInto (reading s) r codes starts widths
+    opened h next r p b = subst (λ (m : FontReading). ReadInto m r codes starts widths) (sym (open-reads s ∙ ap (readFrom s) (sym p))) b
 
     pub closed : (r : Refusal) → Closed r ≡ openAt s → ReadInto (reading s) (Refused r) codes starts widths
     closed r p = subst (λ (m : FontReading). ReadInto m (Refused r) codes starts widths) (sym (open-reads s ∙ ap (readFrom s) (sym p))) (unread r)

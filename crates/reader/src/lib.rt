@@ -6,6 +6,7 @@ use header::Header;
 use index::Filling;
 use index::Found;
 use index::latest;
+use lines::Cursor;
 use rows::Format;
 use subchars::Code;
 ghost use mathlib.Core.Path.{_≡_};
@@ -42,20 +43,20 @@ fn format_of(h: Header) -> Format
     }
 }
 
-// Writes the characters of a font whose header was read into the lists; they start at a place.
+// Writes the characters of a font whose header was read into the lists; they start at a cursor.
 fn read_characters(
     h: Header,
     font: &[u8],
-    at: usize,
+    cursor: Cursor,
     codes: &mut [i32],
     starts: &mut [usize],
     widths: &mut [usize],
 ) -> FontAnswer
     requires { ⌜ CharacterRoom maxCharacters (now codes) (now starts) (now widths) ⌝ }
-    ensures { λ r. ⌜ Behind h (now (font .entry)) at r (now (codes .exit)) (now (starts .exit)) (now (widths .exit)) ⌝ }
+    ensures { λ r. ⌜ Behind h (now (font .entry)) (cursor .at) r (now (codes .exit)) (now (starts .exit)) (now (widths .exit)) ⌝ }
 {
     let f = format_of(h);
-    match index::fill(f, font, at, codes, starts, widths) {
+    match index::fill(f, font, cursor, codes, starts, widths) {
         Filling::Filled(n) => FontAnswer::Read {
             header: h,
             count: n,
@@ -75,7 +76,9 @@ pub fn read_lists(
     ensures { λ r. ⌜ ReadInto (reading (now (font .entry))) r (now (codes .exit)) (now (starts .exit)) (now (widths .exit)) ⌝ }
 {
     match font::open_font(font) {
-        Opening::Open { header, at } => read_characters(header, font, at, codes, starts, widths),
+        Opening::Open { header, next } => {
+            read_characters(header, font, next, codes, starts, widths)
+        }
         Opening::Closed(r) => FontAnswer::Refused(r),
     }
 }

@@ -12,6 +12,7 @@ use borrow.Author.Tests.{ltb-true, ltb-false, eqb-true}
 use Rattle.ground.proofs.Tests.{clash, and-left, and-right}
 use Rattle.subchars.specs.declared.Code.{Code}
 use Rattle.lines.specs.Lines.{TextLine, line, linesFrom, lineEnd, textAt, nextStart, after}
+use Rattle.lines.proofs.PlaceLaws.{after-add}
 use Rattle.lines.proofs.LineLaws.{lines-none, lines-next, line-end-le}
 use Rattle.header.specs.declared.Header.{Header}
 use Rattle.rows.specs.declared.Format.{Format}
@@ -28,7 +29,6 @@ use Rattle.font.proofs.ReadingLaws.{font-read}
 use Rattle.reader.specs.declared.Use.the-variants.{Used}
 use Rattle.reader.specs.Reader.{entryAt, used}
 use Rattle.reader.proofs.UseLaws.{used-at}
-use Rattle.request.proofs.PlaceLaws.{after-add}
 
 -- A row of width w stands on the line that starts at a place.
 pub record RowStands (f : Format) (s : List ℕ) (w at : ℕ) : Type 0 where

@@ -3,8 +3,7 @@ pub mod Examples
 pub mod JoinRefusals
 pub mod LookUpLaws
 pub mod RowLaws
-pub mod ControlCases
-pub mod ControlRefusals
+pub mod MapCases
 pub mod DrawCases
 pub mod DrawRefusals
 pub mod ToldApart

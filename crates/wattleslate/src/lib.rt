@@ -1,5 +1,4 @@
 // The public calls. Each is total: it tests its own input, and its `ensures` hold for every input.
-mod controlling;
 
 // The types that the calls take and answer, and the two calls over a lent index.
 pub use chars::Entry;
@@ -28,10 +27,10 @@ ghost use mathlib.Core.Path.{_≡_};
 ghost use lib.ListN.{length};
 ghost use Rattle.ground.specs.Area.{zeros};
 ghost use Rattle.join.specs.JoinCall.{JoinGives};
-ghost use Rattle.flc.specs.Lists.{stageList, firstList, lastList, newList};
+ghost use Rattle.flc.specs.Lists.{lists};
 ghost use Rattle.wattleslate.specs.LookUpCall.{lookUpTells, lookUpTold};
 ghost use Rattle.wattleslate.specs.RowCall.{rowTells, rowTold, rowBytes};
-ghost use Rattle.wattleslate.specs.ControlCall.{controlTells, controlReading, controlTold};
+ghost use Rattle.wattleslate.specs.ControlCall.{ControlRead};
 ghost use Rattle.wattleslate.specs.MapCall.{mapTells, mapTold};
 ghost use Rattle.wattleslate.specs.DrawCall.{drawTells, drawTold, drawOutput};
 
@@ -97,25 +96,9 @@ pub fn read_control(
     lasts: &mut [i32],
     news: &mut [i32],
 ) -> ControlAnswer
-    ensures answer { λ r. ⌜ controlTells r ≡ controlTold (controlReading (length (now (stages .entry))) (length (now (firsts .entry))) (length (now (lasts .entry))) (length (now (news .entry))) (now (control .entry))) ⌝ }
-    ensures stages { λ r. ⌜ now (stages .exit) ≡ stageList (controlReading (length (now (stages .entry))) (length (now (firsts .entry))) (length (now (lasts .entry))) (length (now (news .entry))) (now (control .entry))) (length (now (stages .entry))) ⌝ }
-    ensures firsts { λ r. ⌜ now (firsts .exit) ≡ firstList (controlReading (length (now (stages .entry))) (length (now (firsts .entry))) (length (now (lasts .entry))) (length (now (news .entry))) (now (control .entry))) (length (now (firsts .entry))) ⌝ }
-    ensures lasts { λ r. ⌜ now (lasts .exit) ≡ lastList (controlReading (length (now (stages .entry))) (length (now (firsts .entry))) (length (now (lasts .entry))) (length (now (news .entry))) (now (control .entry))) (length (now (lasts .entry))) ⌝ }
-    ensures news { λ r. ⌜ now (news .exit) ≡ newList (controlReading (length (now (stages .entry))) (length (now (firsts .entry))) (length (now (lasts .entry))) (length (now (news .entry))) (now (control .entry))) (length (now (news .entry))) ⌝ }
+    ensures { λ r. ⌜ ControlRead (now (control .entry)) (lists (now (stages .entry)) (now (firsts .entry)) (now (lasts .entry)) (now (news .entry))) r (lists (now (stages .exit)) (now (firsts .exit)) (now (lasts .exit)) (now (news .exit))) ⌝ }
 {
-    if !controlling::has_room(stages.len(), firsts.len(), lasts.len(), news.len()) {
-        return flc::refuse(
-            Refusal {
-                number: refusals::AREA_TOO_SMALL,
-                place: 0,
-            },
-            stages,
-            firsts,
-            lasts,
-            news,
-        );
-    }
-    flc::read_lists(control, stages, firsts, lasts, news)
+    flc::read_lent(control, stages, firsts, lasts, news)
 }
 
 // Maps a code by a control file, stage after stage. Refusals are those of the file (10 to 14).

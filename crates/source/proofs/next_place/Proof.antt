@@ -3,7 +3,7 @@
 use mathlib.Core.Path.{sym, _∙_}
 use native.Mathlib.Omega.{arith}
 use Rattle.lines.proofs.LineLaws.{line-found, line-missed}
-use Rattle.request.proofs.PlaceLaws.{next-stuck}
+use Rattle.lines.proofs.PlaceLaws.{next-stuck}
 use Rattle.source.proofs.MarkLaws.{byte-within}
 use borrow.Author.Needs.{needs}
 use Rattle.source.proofs.next_place.Statement.{statement}
