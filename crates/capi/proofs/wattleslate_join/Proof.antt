@@ -44,13 +44,13 @@ enum-known-overlap : tie.Need-enum-known-overlap
 enum-known-overlap c = search needs
 
 three-values-requires : tie.Need-three-values-requires
-three-values-requires c κs = join-values-fit _ _ _ _ _ _ _ _ _ (sym (ap joinTells (c .before .overlap .given .1)) ∙ c .before .before .before .before .before .join .ensures .answers)
+three-values-requires c κs = join-values-fit _ _ _ _ _ _ _ _ _ (sym (ap joinTells (c .before .overlap .given .1)) ∙ c .before .before .before .before .before .join .ensures .answer)
 
 enum-known-r : tie.Need-enum-known-r
 enum-known-r c = search needs
 
 refused-at-requires-2 : tie.Need-refused-at-requires-2
-refused-at-requires-2 c κs = join-refusal-fits _ _ _ _ _ _ _ _ (sym (ap joinTells (c .before .r .given .1)) ∙ c .before .before .before .before .before .join .ensures .answers)
+refused-at-requires-2 c κs = join-refusal-fits _ _ _ _ _ _ _ _ (sym (ap joinTells (c .before .r .given .1)) ∙ c .before .before .before .before .before .join .ensures .answer)
 
 same-length-2 : tie.Need-same-length-2
 same-length-2 c = search needs
@@ -60,8 +60,8 @@ returns-2 c =
     let a = c .before .before .before .before .before .before .before .before .before .before .before .before .before .before .before .args in
     let e = c .before .before .before .before .before .before .join .ensures in
     let is = sym (c .before .before .before .before .before .before .before .before .before .before .before .both .ensures) ∙ not-false _ (c .before .before .before .before .before .before .before .before .before .before .if1 .left) in (
-      c .three-values .ensures ∙ ap joinNumber (sym (ap joinTells (c .before .before .overlap .given .1)) ∙ (e .answers ∙ legal-told (a .layout) (a .direction) (a .hardblank) (a .height) (a .line-width) (a .line .now) (a .character-width) (a .character .now) (length (a .out .now)) is _ _ (c .before .before .before .before .before .before .before .before .before .from-full .ensures) (c .before .before .before .before .before .before .before .before .from-print .ensures))),
-      e .holds ∙ legal-area (a .layout) (a .direction) (a .hardblank) (a .height) (a .line-width) (a .line .now) (a .character-width) (a .character .now) (length (a .out .now)) is _ _ (c .before .before .before .before .before .before .before .before .before .from-full .ensures) (c .before .before .before .before .before .before .before .before .from-print .ensures),
+      c .three-values .ensures ∙ ap joinNumber (sym (ap joinTells (c .before .before .overlap .given .1)) ∙ (e .answer ∙ legal-told (a .layout) (a .direction) (a .hardblank) (a .height) (a .line-width) (a .line .now) (a .character-width) (a .character .now) (length (a .out .now)) is _ _ (c .before .before .before .before .before .before .before .before .before .from-full .ensures) (c .before .before .before .before .before .before .before .before .from-print .ensures))),
+      e .area ∙ legal-area (a .layout) (a .direction) (a .hardblank) (a .height) (a .line-width) (a .line .now) (a .character-width) (a .character .now) (length (a .out .now)) is _ _ (c .before .before .before .before .before .before .before .before .before .from-full .ensures) (c .before .before .before .before .before .before .before .before .from-print .ensures),
     )
 
 same-length-3 : tie.Need-same-length-3
@@ -72,8 +72,8 @@ returns-3 c =
     let a = c .before .before .before .before .before .before .before .before .before .before .before .before .before .before .before .args in
     let e = c .before .before .before .before .before .before .join .ensures in
     let is = sym (c .before .before .before .before .before .before .before .before .before .before .before .both .ensures) ∙ not-false _ (c .before .before .before .before .before .before .before .before .before .before .if1 .left) in (
-      c .refused-at2 .ensures ∙ ap joinNumber (sym (ap joinTells (c .before .before .r .given .1)) ∙ (e .answers ∙ legal-told (a .layout) (a .direction) (a .hardblank) (a .height) (a .line-width) (a .line .now) (a .character-width) (a .character .now) (length (a .out .now)) is _ _ (c .before .before .before .before .before .before .before .before .before .from-full .ensures) (c .before .before .before .before .before .before .before .before .from-print .ensures))),
-      e .holds ∙ legal-area (a .layout) (a .direction) (a .hardblank) (a .height) (a .line-width) (a .line .now) (a .character-width) (a .character .now) (length (a .out .now)) is _ _ (c .before .before .before .before .before .before .before .before .before .from-full .ensures) (c .before .before .before .before .before .before .before .before .from-print .ensures),
+      c .refused-at2 .ensures ∙ ap joinNumber (sym (ap joinTells (c .before .before .r .given .1)) ∙ (e .answer ∙ legal-told (a .layout) (a .direction) (a .hardblank) (a .height) (a .line-width) (a .line .now) (a .character-width) (a .character .now) (length (a .out .now)) is _ _ (c .before .before .before .before .before .before .before .before .before .from-full .ensures) (c .before .before .before .before .before .before .before .before .from-print .ensures))),
+      e .area ∙ legal-area (a .layout) (a .direction) (a .hardblank) (a .height) (a .line-width) (a .line .now) (a .character-width) (a .character .now) (length (a .out .now)) is _ _ (c .before .before .before .before .before .before .before .before .before .from-full .ensures) (c .before .before .before .before .before .before .before .before .from-print .ensures),
     )
 
 pub wattleslate-join-spec : {M : Type 1} → statement M
