@@ -63,7 +63,7 @@ overlap-of-requires c κs =
     let s = c .before .before .before .before .before .before .before in
     let l = s .pre .0 in
     let r = s .pre .1 in (
-      (omega (arith, l .wide), omega (arith, r .wide)),
+      (l .wide, r .wide),
       (
         inside (s .args .left .now) (c .before .before .before .row-starts .result) (s .args .n) (s .args .h) (l .exact) (c .before .before .before .row-starts .ensures),
         inside (s .args .right .now) (c .before .before .row-starts2 .result) (s .args .m) (s .args .h) (r .exact) (c .before .before .row-starts2 .ensures),
@@ -91,7 +91,7 @@ returns c =
 mul-if2 : tie.Need-mul-if2
 mul-if2 c =
     let p = c .before in
-    omega (arith, small (start p .args .h) (width p) (start p .pre .0 .high) (c .if1 .left))
+    omega (arith, small (start p .args .h) (width p) (start p .pre .0 .high) (omega (arith, c .if1 .left)))
 
 refuse-requires-2 : tie.Need-refuse-requires-2
 refuse-requires-2 c κs = search needs
@@ -112,12 +112,12 @@ write-rows-requires c κs =
     let l = s .pre .0 in
     let r = s .pre .1 in
     let o = low p in
-    ((l .exact, r .exact, omega arith, omega arith, omega (arith, l .wide, r .wide)), c .before .if2 .left)
+    ((l .exact, r .exact, omega arith, omega arith, l .wide, r .wide), c .before .if2 .left)
 
 mul-zero-from : tie.Need-mul-zero-from
 mul-zero-from c =
     let p = c .before .before .before .before .before .before .before in
-    omega (arith, small (start p .args .h) (width p) (start p .pre .0 .high) (c .before .before .before .before .before .before .if1 .left))
+    omega (arith, small (start p .args .h) (width p) (start p .pre .0 .high) (omega (arith, c .before .before .before .before .before .before .if1 .left)))
 
 zero-from-requires : tie.Need-zero-from-requires
 zero-from-requires c κs = omega (arith, c .before .before .before .before .before .if2 .left, c .before .before .before .write-rows .kept .0)
