@@ -10,7 +10,8 @@ use lib.Dec.{ltb}
 use lib.IntN.{ℤ, pos, negsuc}
 use lib.ListN.{length, getD}
 use borrow.Author.Tests.{lt-ltb, le-ltb, ltb-true, ltb-false, eqb-true}
-use Rattle.ground.specs.Refusals.{refusal, badCodeTag, tooManyCharacters}
+use Rattle.ground.specs.Refusals.{refusal, badRow, badCodeTag, tooManyCharacters}
+use Rattle.ground.specs.declared.refusals.Refusal.{Refusal}
 use Rattle.ground.proofs.Tests.{clash}
 use Rattle.ground.specs.Limits.{maxCharacters}
 use Rattle.subchars.specs.declared.Code.{Code}
@@ -25,8 +26,7 @@ use Rattle.rows.specs.Steps.{charThen, charAt}
 use Rattle.rows.proofs.RefusalLaws.{refused-numbers}
 use Rattle.chars.specs.declared.TagStep.{TagStep}
 use Rattle.chars.specs.declared.TagStep.the-variants.{Tag, BadTag}
-use Rattle.chars.specs.declared.CharNext.{CharNext}
-use Rattle.chars.specs.declared.CharNext.the-variants.{Listed, Complete, Stopped}
+use Rattle.chars.specs.declared.CharNext.the-variants.{Complete, Stopped}
 use Rattle.chars.specs.Codes.{code, requiredCodes, requiredCount, sameNumber, sameCode, noCode, tagCode, tagOf}
 use Rattle.chars.specs.Steps.{listedThen, listedAt, tagThen, tagAt, blankFrom, taggedThen, taggedAt, nextOf, nextAt}
 use Rattle.chars.proofs.CodeLaws.{still-required, none-required}
@@ -57,25 +57,14 @@ bad-exactly t = (to (codeNumber (firstWord t)) refl, from)
     from (no-number p) = ap tagCode p
     from (minus-one p) = ap tagCode p
 
--- The number of an answer, 0 for a character or the end.
-number-of : CharNext → ℕ
-number-of (Listed e next) = 0
-number-of Complete = 0
-number-of (Stopped r) = r .number
-
-place-of : CharNext → ℕ
-place-of (Listed e next) = 0
-place-of Complete = 0
-place-of (Stopped r) = r .place
-
 -- A character's own refusals are those of its rows.
-listed-number : (f : Format) (s : List ℕ) (at : ℕ) (c : Code) → number-of (listedAt f s at c) ≤ 6
-unfolding listedAt charAt number-of
-listed-number f s at c = go (characterRows f (length s) (linesFrom s at)) refl
+listed-number : (f : Format) (s : List ℕ) (at : ℕ) (c : Code) (r : Refusal) → listedAt f s at c ≡ Stopped r → r .number ≤ badRow
+unfolding listedAt charAt
+listed-number f s at c r p = go (characterRows f (length s) (linesFrom s at)) refl p
   where
-    go : (v : Rows) → characterRows f (length s) (linesFrom s at) ≡ v → number-of (listedThen (charThen v (cursor (after (lineCount f) s at))) c at) ≤ 6
-    go (read w) e = omega arith
-    go (refused r) e = refused-numbers f (length s) (linesFrom s at) r e .1
+    go : (v : Rows) → characterRows f (length s) (linesFrom s at) ≡ v → listedThen (charThen v (cursor (after (lineCount f) s at))) c at ≡ Stopped r → r .number ≤ badRow
+    go (read w) e q = clash (cc)
+    go (refused z) e q = let m : z .number ≡ r .number = cc in omega (arith, refused-numbers f (length s) (linesFrom s at) z e .1)
 
 module _ (f : Format) (s : List ℕ) (at n : ℕ) where
   -- where a tag line is due: no required code is left, and more than blanks remains
@@ -97,47 +86,36 @@ module _ (f : Format) (s : List ℕ) (at n : ℕ) where
       simp (d .more, lt-ltb at (length s) (inside (d .more)))
 
   -- a number above 6 is given only where a tag line is due
-  only-due : 6 < number-of (nextAt f s at n) → TagDue
-  unfolding nextAt taggedAt number-of
-  only-due h = go (ltb n requiredCount) refl
+  only-due : (r : Refusal) → nextAt f s at n ≡ Stopped r → badRow < r .number → TagDue
+  unfolding nextAt taggedAt
+  only-due r p h = go (ltb n requiredCount) refl
     where
-      by : requiredCount ≤ n → (b : Bool) → blankFrom s at ≡ b → 6 < number-of (cond b Complete (taggedThen (tagAt s at) f s at n)) → TagDue
-      by k true e l = absurd (omega arith)
-      by k false e l = record { required = k; more = e }
+      by : requiredCount ≤ n → (b : Bool) → blankFrom s at ≡ b → cond b Complete (taggedThen (tagAt s at) f s at n) ≡ Stopped r → TagDue
+      by k true e q = clash (cc)
+      by k false e q = record { required = k; more = e }
 
       go : (b : Bool) → ltb n requiredCount ≡ b → TagDue
       go true e =
           let k = ltb-true n requiredCount e in
-          let p = ap (λ (cs : List ℕ). number-of (nextOf cs f s at n)) (still-required n k) in
-          absurd (omega (arith, listed-number f s at (code (pos (getD requiredCodes n 0)))))
+          absurd (omega (arith, listed-number f s at (code (pos (getD requiredCodes n 0))) r (sym (ap (λ (cs : List ℕ). nextOf cs f s at n) (still-required n k)) ∙ p)))
       go false e =
           let k = ltb-false n requiredCount e in
-          let p = ap (λ (cs : List ℕ). number-of (nextOf cs f s at n)) (none-required n k) in
-          by k (blankFrom s at) refl (omega arith)
-
-  -- a good tag is no reason for 7
-  good-tag : (c : Code) (p : ℕ) → taggedThen (tagThen (Tag c) (cursor (nextStart s at))) f s at n ≡ Stopped (refusal badCodeTag p) → ⊥
-  unfolding number-of
-  good-tag c p e = go (ltb n maxCharacters) (ap number-of e)
-    where
-      go : (b : Bool) → number-of (cond b (listedAt f s (nextStart s at) c) (Stopped (refusal tooManyCharacters at))) ≡ 7 → ⊥
-      go true q = omega (arith, listed-number f s (nextStart s at) c)
-      go false q = omega arith
+          by k (blankFrom s at) refl (sym (ap (λ (cs : List ℕ). nextOf cs f s at n) (none-required n k)) ∙ p)
 
   -- 7: "bad code tag", at the "start of that line"
   pub refused-7 : (p : ℕ) → nextAt f s at n ≡ Stopped (refusal badCodeTag p) ↔ (TagDue × BadCode (textAt s at) × (p ≡ at))
-  unfolding number-of place-of
-  refused-7 p = (to, from)
+  refused-7 p = (λ e. to (refusal badCodeTag p) e refl, from)
     where
-      by : TagDue → (t : TagStep) → tagOf (textAt s at) ≡ t → taggedThen (tagThen t (cursor (nextStart s at))) f s at n ≡ Stopped (refusal badCodeTag p) → TagDue × BadCode (textAt s at) × (p ≡ at)
-      by d BadTag q e = (d, bad-exactly (textAt s at) .0 q, sym (ap place-of e))
-      by d (Tag c) q e = absurd (good-tag c p e)
+      room : (c : Code) (r : Refusal) (b : Bool) → cond b (listedAt f s (nextStart s at) c) (Stopped (refusal tooManyCharacters at)) ≡ Stopped r → r .number ≡ badCodeTag → ⊥
+      room c r true q m = omega (arith, listed-number f s (nextStart s at) c r q)
+      room c r false q m = let k : r .number ≡ tooManyCharacters = cc in omega arith
 
-      to : nextAt f s at n ≡ Stopped (refusal badCodeTag p) → TagDue × BadCode (textAt s at) × (p ≡ at)
-      to e =
-          let m = ap number-of e in
-          let d = only-due (omega arith) in
-          by d (tagOf (textAt s at)) refl (sym (due-is d) ∙ e)
+      by : (r : Refusal) → r .number ≡ badCodeTag → TagDue → (t : TagStep) → tagOf (textAt s at) ≡ t → taggedThen (tagThen t (cursor (nextStart s at))) f s at n ≡ Stopped r → TagDue × BadCode (textAt s at) × (r .place ≡ at)
+      by r m d BadTag q e = (d, bad-exactly (textAt s at) .0 q, cc)
+      by r m d (Tag c) q e = absurd (room c r (ltb n maxCharacters) e m)
+
+      to : (r : Refusal) → nextAt f s at n ≡ Stopped r → r .number ≡ badCodeTag → TagDue × BadCode (textAt s at) × (r .place ≡ at)
+      to r e m = let d = only-due r e (omega arith) in by r m d (tagOf (textAt s at)) refl (sym (due-is d) ∙ e)
 
       from : TagDue × BadCode (textAt s at) × (p ≡ at) → nextAt f s at n ≡ Stopped (refusal badCodeTag p)
       from w =
@@ -152,23 +130,19 @@ module _ (f : Format) (s : List ℕ) (at n : ℕ) where
     pub many : maxCharacters ≤ n
 
   pub refused-8 : (p : ℕ) → nextAt f s at n ≡ Stopped (refusal tooManyCharacters p) ↔ (TooMany × (p ≡ at))
-  unfolding number-of place-of
-  refused-8 p = (to, from)
+  refused-8 p = (λ e. to (refusal tooManyCharacters p) e refl, from)
     where
-      room : TagDue → (c : Code) → tagOf (textAt s at) ≡ Tag c → (b : Bool) → ltb n maxCharacters ≡ b →
-          cond b (listedAt f s (nextStart s at) c) (Stopped (refusal tooManyCharacters at)) ≡ Stopped (refusal tooManyCharacters p) → TooMany × (p ≡ at)
-      room d c q true b e = let m = ap number-of e in absurd (omega (arith, listed-number f s (nextStart s at) c))
-      room d c q false b e = (record { due = d; tag = c; good = q; many = ltb-false n maxCharacters b }, sym (ap place-of e))
+      room : (r : Refusal) → r .number ≡ tooManyCharacters → TagDue → (c : Code) → tagOf (textAt s at) ≡ Tag c → (b : Bool) → ltb n maxCharacters ≡ b →
+          cond b (listedAt f s (nextStart s at) c) (Stopped (refusal tooManyCharacters at)) ≡ Stopped r → TooMany × (r .place ≡ at)
+      room r m d c q true b e = absurd (omega (arith, listed-number f s (nextStart s at) c r e))
+      room r m d c q false b e = (record { due = d; tag = c; good = q; many = ltb-false n maxCharacters b }, cc)
 
-      by : TagDue → (t : TagStep) → tagOf (textAt s at) ≡ t → taggedThen (tagThen t (cursor (nextStart s at))) f s at n ≡ Stopped (refusal tooManyCharacters p) → TooMany × (p ≡ at)
-      by d BadTag q e = let m = ap number-of e in absurd (omega arith)
-      by d (Tag c) q e = room d c q (ltb n maxCharacters) refl e
+      by : (r : Refusal) → r .number ≡ tooManyCharacters → TagDue → (t : TagStep) → tagOf (textAt s at) ≡ t → taggedThen (tagThen t (cursor (nextStart s at))) f s at n ≡ Stopped r → TooMany × (r .place ≡ at)
+      by r m d BadTag q e = let k : r .number ≡ badCodeTag = cc in absurd (omega arith)
+      by r m d (Tag c) q e = room r m d c q (ltb n maxCharacters) refl e
 
-      to : nextAt f s at n ≡ Stopped (refusal tooManyCharacters p) → TooMany × (p ≡ at)
-      to e =
-          let m = ap number-of e in
-          let d = only-due (omega arith) in
-          by d (tagOf (textAt s at)) refl (sym (due-is d) ∙ e)
+      to : (r : Refusal) → nextAt f s at n ≡ Stopped r → r .number ≡ tooManyCharacters → TooMany × (r .place ≡ at)
+      to r e m = let d = only-due r e (omega arith) in by r m d (tagOf (textAt s at)) refl (sym (due-is d) ∙ e)
 
       from : TooMany × (p ≡ at) → nextAt f s at n ≡ Stopped (refusal tooManyCharacters p)
       from w =

@@ -1,7 +1,7 @@
 -- The index: what is moved to it from three lists of numbers and from an array is what the font says.
 -- Assumes nothing.
 use mathlib.Core.Path.{_≡_, refl, sym, ap, _∙_}
-use mathlib.Core.Bool.{Bool, true, false, cond}
+use mathlib.Core.Bool.{Bool, true, false}
 use mathlib.Core.List.{List, _++_, map}
 use Prim.Native.Nat.{ℕ, _+_, _-_, _≤_, _<_, min}
 use native.Mathlib.Omega.{arith}
@@ -10,9 +10,10 @@ use lib.Dec.{ltb}
 use lib.IntN.{ℤ, pos}
 use lib.ListN.{length, take, set, getD, replicate, length-append, length-replicate, List·getD-eq-default, List·getD-map}
 use lib.Seq.{getD-take, take-length}
-use borrow.Author.Tests.{ltb-true, ltb-false, lt-ltb, le-ltb}
+use borrow.Author.Tests.{ltb-true, ltb-false}
 use Rattle.ground.specs.Refusals.{refusal, areaTooSmall}
 use Rattle.ground.specs.Limits.{maxCharacters}
+use Rattle.ground.proofs.Lent as lent
 use Rattle.header.specs.declared.Header.{Header}
 use Rattle.chars.specs.declared.Entry.{Entry}
 use Rattle.chars.specs.Codes.{code}
@@ -68,11 +69,11 @@ module _ (m : FontReading) (codes : List ℤ) (starts widths : List ℕ) (r : Fo
 module _ (s : List ℕ) (room : ℕ) where
   pub no-room : room < maxCharacters → fontReading room s ≡ refuses (refusal areaTooSmall 0)
   unfolding fontReading
-  no-room h = ap (λ (b : Bool). cond b (refuses (refusal areaTooSmall 0)) (reading s)) (lt-ltb room maxCharacters h)
+  no-room h = lent.too-small refuses (λ q r e. cc) room maxCharacters (reading s) h
 
   pub has-room : maxCharacters ≤ room → fontReading room s ≡ reading s
   unfolding fontReading
-  has-room h = ap (λ (b : Bool). cond b (refuses (refusal areaTooSmall 0)) (reading s)) (le-ltb room maxCharacters h)
+  has-room h = lent.has-room refuses (λ q r e. cc) room maxCharacters (reading s) h
 
   -- no more entries than a font may have, and than the index holds
   few : (length (entriesOf (fontReading room s)) ≤ maxCharacters) × (length (entriesOf (fontReading room s)) ≤ room)

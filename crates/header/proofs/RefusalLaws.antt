@@ -36,15 +36,6 @@ pub data BadParameters : List ℕ → Type 0 where
   under-five : {x : ℕ} {rest : List ℕ} → isBlank x ≡ true → length (parameterNumbers rest) < 5 → BadParameters (x ∷ rest)
   out-of-range : {x : ℕ} {rest : List ℕ} (p : Parameters) → isBlank x ≡ true → parameters (parameterNumbers rest) ≡ All p → legalParameters p ≡ false → BadParameters (x ∷ rest)
 
--- The number of an answer, 0 for a header that is read.
-numberOf : HeaderStep → ℕ
-numberOf (Good x) = 0
-numberOf (Refused r) = r .number
-
-placeOf : HeaderStep → ℕ
-placeOf (Good x) = 0
-placeOf (Refused r) = r .place
-
 -- What an answer to what follows the hardblank is for.
 data After (rest : List ℕ) (r : HeaderStep) : Type 0 where
   fine : (x : Header) → r ≡ Good x → High (x .height) → After rest r
@@ -106,10 +97,25 @@ good-hardblank : (u : List ℕ) (h : ℕ) (rest : List ℕ) → u ≡ h ∷ rest
 unfolding afterSignature
 good-hardblank u h rest e b p = ap afterSignature e ∙ simp b (bad-parameters (record { 0 = h }) rest p)
 
--- Answers of different numbers are different.
-differ : {X : Type 0} (r s : HeaderStep) → r ≡ s → (numberOf r ≡ numberOf s → ⊥) → X
-unfolding numberOf
-differ r s e f = absurd (f (ap numberOf e))
+-- Which of the two refusals it is, by its number.
+unnumbered : (u : List ℕ) (x : HeaderStep) (r : Refusal) → Signed u x → x ≡ Refused r → r .number ≡ noSignature → ⊥
+unnumbered u x r (unblank b e) q n = let m : r .number ≡ badHardblank = cc in omega arith
+unnumbered u x r (blank h rest e b (fine y g t)) q n = clash (cc)
+unnumbered u x r (blank h rest e b (bad p g)) q n = let m : r .number ≡ badParameters = cc in omega arith
+
+by-hardblank : (u : List ℕ) (x : HeaderStep) (r : Refusal) → Signed u x → x ≡ Refused r → r .number ≡ badHardblank → BadHardblank u
+by-hardblank u x r (unblank b e) q n = b
+by-hardblank u x r (blank h rest e b (fine y g t)) q n = clash (cc)
+by-hardblank u x r (blank h rest e b (bad p g)) q n = let m : r .number ≡ badParameters = cc in absurd (omega arith)
+
+-- the hardblank is good, and what follows it is not
+abbrev pub Followed : List ℕ → Type 0
+Followed u = (h : ℕ) × (rest : List ℕ) × (u ≡ h ∷ rest) × (legalHardblank h ≡ true) × BadParameters rest
+
+by-parameters : (u : List ℕ) (x : HeaderStep) (r : Refusal) → Signed u x → x ≡ Refused r → r .number ≡ badParameters → Followed u
+by-parameters u x r (unblank b e) q n = let m : r .number ≡ badHardblank = cc in absurd (omega arith)
+by-parameters u x r (blank h rest e b (fine y g t)) q n = clash (cc)
+by-parameters u x r (blank h rest e b (bad p g)) q n = (h, rest, e, b, p)
 
 module _ (t : List ℕ) where
   with-signature : begins fontSignature t ≡ true → readHeader t ≡ afterSignature (drop 5 t)
@@ -120,70 +126,50 @@ module _ (t : List ℕ) where
   unfolding readHeader
   without-signature e = simp e
 
-  -- what follows flf2a is no reason for 2
-  signed-not-2 : (u : List ℕ) (r : HeaderStep) → Signed u r → r ≡ refused noSignature → ⊥
-  unfolding numberOf
-  signed-not-2 u r (unblank b e) q = differ _ _ (sym e ∙ q) λ n. omega arith
-  signed-not-2 u r (blank h rest e b (fine x g t)) q = differ _ _ (sym g ∙ q) λ n. omega arith
-  signed-not-2 u r (blank h rest e b (bad p g)) q = differ _ _ (sym g ∙ q) λ n. omega arith
+  signed : Signed (drop 5 t) (afterSignature (drop 5 t))
+  signed = signed-is (drop 5 t)
 
   -- 2: "first line does not begin with flf2a"
   pub refused-2 : readHeader t ≡ refused noSignature ↔ begins fontSignature t ≡ false
   refused-2 = (λ q. only (begins fontSignature t) refl q, without-signature)
     where
       only : (b : Bool) → begins fontSignature t ≡ b → readHeader t ≡ refused noSignature → begins fontSignature t ≡ false
-      only true e q = absurd (signed-not-2 (drop 5 t) (afterSignature (drop 5 t)) (signed-is (drop 5 t)) (sym (with-signature e) ∙ q))
+      only true e q = absurd (unnumbered (drop 5 t) _ _ signed (sym (with-signature e) ∙ q) refl)
       only false e q = e
 
-  signed-3 : (u : List ℕ) (r : HeaderStep) → Signed u r → r ≡ refused badHardblank → BadHardblank u
-  unfolding numberOf
-  signed-3 u r (unblank b e) q = b
-  signed-3 u r (blank h rest e b (fine x g t)) q = differ _ _ (sym g ∙ q) λ n. omega arith
-  signed-3 u r (blank h rest e b (bad p g)) q = differ _ _ (sym g ∙ q) λ n. omega arith
+  -- a line that does not begin with flf2a has no other refusal
+  unsigned : (r : Refusal) → begins fontSignature t ≡ false → readHeader t ≡ Refused r → r .number ≡ noSignature
+  unsigned r e q = let p : refused noSignature ≡ Refused r = sym (without-signature e) ∙ q in cc
 
   -- 3, where the line begins with flf2a
   pub refused-3 : readHeader t ≡ refused badHardblank ↔ ((begins fontSignature t ≡ true) × BadHardblank (drop 5 t))
-  unfolding numberOf
   refused-3 = (λ q. only (begins fontSignature t) refl q, λ w. with-signature (w .0) ∙ bad-hardblank (drop 5 t) (w .1))
     where
       only : (b : Bool) → begins fontSignature t ≡ b → readHeader t ≡ refused badHardblank → (begins fontSignature t ≡ true) × BadHardblank (drop 5 t)
-      only true e q = (e, signed-3 (drop 5 t) (afterSignature (drop 5 t)) (signed-is (drop 5 t)) (sym (with-signature e) ∙ q))
-      only false e q = differ _ _ (sym (without-signature e) ∙ q) λ n. omega arith
-
-  -- the hardblank is good, and what follows it is not
-  abbrev pub Followed : List ℕ → Type 0
-  Followed u = (h : ℕ) × (rest : List ℕ) × (u ≡ h ∷ rest) × (legalHardblank h ≡ true) × BadParameters rest
-
-  signed-4 : (u : List ℕ) (r : HeaderStep) → Signed u r → r ≡ refused badParameters → Followed u
-  unfolding numberOf
-  signed-4 u r (unblank b e) q = differ _ _ (sym e ∙ q) λ n. omega arith
-  signed-4 u r (blank h rest e b (fine x g t)) q = differ _ _ (sym g ∙ q) λ n. omega arith
-  signed-4 u r (blank h rest e b (bad p g)) q = (h, rest, e, b, p)
+      only true e q = (e, by-hardblank (drop 5 t) _ _ signed (sym (with-signature e) ∙ q) refl)
+      only false e q = absurd (omega (arith, unsigned _ e q))
 
   -- 4, where the line begins with flf2a and a hardblank
   pub refused-4 : readHeader t ≡ refused badParameters ↔ ((begins fontSignature t ≡ true) × Followed (drop 5 t))
-  unfolding numberOf
   refused-4 = (
     λ q. only (begins fontSignature t) refl q,
     λ w. with-signature (w .0) ∙ good-hardblank (drop 5 t) (w .1 .0) (w .1 .1) (w .1 .2) (w .1 .3) (w .1 .4),
   )
     where
       only : (b : Bool) → begins fontSignature t ≡ b → readHeader t ≡ refused badParameters → (begins fontSignature t ≡ true) × Followed (drop 5 t)
-      only true e q = (e, signed-4 (drop 5 t) (afterSignature (drop 5 t)) (signed-is (drop 5 t)) (sym (with-signature e) ∙ q))
-      only false e q = differ _ _ (sym (without-signature e) ∙ q) λ n. omega arith
+      only true e q = (e, by-parameters (drop 5 t) _ _ signed (sym (with-signature e) ∙ q) refl)
+      only false e q = absurd (omega (arith, unsigned _ e q))
 
   -- a header is refused with no other number, and always at place 0
   pub record HeaderRefusal (r : Refusal) : Type 0 where
-    pub low : 2 ≤ r .number
-    pub high : r .number ≤ 4
+    pub low : noSignature ≤ r .number
+    pub high : r .number ≤ badParameters
     pub place : r .place ≡ 0
 
-  known : (k : ℕ) (r : Refusal) → 2 ≤ k → k ≤ 4 → refused k ≡ Refused r → HeaderRefusal r
-  unfolding numberOf placeOf
+  known : (k : ℕ) (r : Refusal) → noSignature ≤ k → k ≤ badParameters → refused k ≡ Refused r → HeaderRefusal r
   known k r l h e =
-      let n : k ≡ r .number = ap numberOf e in
-      let p : 0 ≡ r .place = ap placeOf e in
-      record { low = omega arith; high = omega arith; place = sym p }
+      let n : r .number ≡ k = cc in
+      record { low = omega arith; high = omega arith; place = cc }
 
   signed-numbers : (u : List ℕ) (x : HeaderStep) (r : Refusal) → Signed u x → x ≡ Refused r → HeaderRefusal r
   signed-numbers u x r (unblank b e) q = known badHardblank r (omega arith) (omega arith) (sym e ∙ q)
@@ -194,7 +180,7 @@ module _ (t : List ℕ) where
   header-refusal r q = go (begins fontSignature t) refl
     where
       go : (b : Bool) → begins fontSignature t ≡ b → HeaderRefusal r
-      go true e = signed-numbers (drop 5 t) (afterSignature (drop 5 t)) r (signed-is (drop 5 t)) (sym (with-signature e) ∙ q)
+      go true e = signed-numbers (drop 5 t) (afterSignature (drop 5 t)) r signed (sym (with-signature e) ∙ q)
       go false e = known noSignature r (omega arith) (omega arith) (sym (without-signature e) ∙ q)
 
   -- a header that is read has 1 to 32 rows
@@ -207,5 +193,5 @@ module _ (t : List ℕ) where
   header-high y q = go (begins fontSignature t) refl
     where
       go : (b : Bool) → begins fontSignature t ≡ b → High (y .height)
-      go true e = signed-high (drop 5 t) (afterSignature (drop 5 t)) y (signed-is (drop 5 t)) (sym (with-signature e) ∙ q)
+      go true e = signed-high (drop 5 t) (afterSignature (drop 5 t)) y signed (sym (with-signature e) ∙ q)
       go false e = let r = sym (without-signature e) ∙ q in clash (cc)

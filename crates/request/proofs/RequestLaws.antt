@@ -50,15 +50,6 @@ module _ (m : FontReading) (c : Code) (r : FontAnswer) (codes : List ℤ) (start
   unfolding sought
   seek-unread q p = sym (ap (sought c) (unread-refuses m q (sym p ∙ i .answer)))
 
--- The number and the place of an answer, 0 for a row.
-number-of : Requested → ℕ
-number-of (Row p w) = 0
-number-of (Refused q) = q .number
-
-place-of : Requested → ℕ
-place-of (Row p w) = 0
-place-of (Refused q) = q .place
-
 module _ (s : List ℕ) (c : Code) (r : ℕ) where
   -- The row request from what is sought.
   by-sought : (x : Sought) → x ≡ sought c (reading s) → rowOfSought s r x ≡ rowRequest s c r
@@ -160,30 +151,28 @@ module _ (s : List ℕ) (c : Code) (r : ℕ) where
       go Nothing = refl
 
   pub refused-17 : (p : ℕ) → rowRequest s c r ≡ Refused (refusal badShape p) ↔ ((p ≡ 0) × BadRequest)
-  unfolding number-of place-of
-  refused-17 p = (λ e. to e answer, λ w. bad-shape (w .1) ∙ ap (λ (j : ℕ). Refused (refusal badShape j)) (sym (w .0)))
+  refused-17 p = (λ e. to (refusal badShape p) refl e answer, λ w. bad-shape (w .1) ∙ ap (λ (j : ℕ). Refused (refusal badShape j)) (sym (w .0)))
     where
-      to : rowRequest s c r ≡ Refused (refusal badShape p) → Answer (rowRequest s c r) → (p ≡ 0) × BadRequest
-      to e (gives a b q g) = clash (cc)
-      to e (shape q b) = (ap place-of (sym e ∙ q), b)
-      to e (of-font z q m) = absurd (omega (arith, ap number-of (sym e ∙ q), font-refusal s z m .1))
+      to : (x : Refusal) → x .number ≡ badShape → rowRequest s c r ≡ Refused x → Answer (rowRequest s c r) → (x .place ≡ 0) × BadRequest
+      to x n e (gives a b q g) = clash (cc)
+      to x n e (shape q b) = (cc, b)
+      to x n e (of-font z q m) = let k : z .number ≡ x .number = cc in absurd (omega (arith, font-refusal s z m .1))
 
   -- the font's own refusals, exactly those of the font
   pub refused-font : (q : Refusal) → q .number ≤ 8 → rowRequest s c r ≡ Refused q ↔ reading s ≡ refuses q
-  unfolding rowRequest sought number-of
+  unfolding rowRequest sought
   refused-font q h = (λ e. to e answer, λ m. ap (λ (x : FontReading). rowOfSought s r (sought c x)) m)
     where
       to : rowRequest s c r ≡ Refused q → Answer (rowRequest s c r) → reading s ≡ refuses q
       to e (gives a b p g) = clash (cc)
-      to e (shape p b) = absurd (omega (arith, ap number-of (sym e ∙ p)))
+      to e (shape p b) = let k : q .number ≡ badShape = cc in absurd (omega arith)
       to e (of-font z p m) = let y : z ≡ q = cc in m ∙ ap refuses y
 
   -- no refusal has the number 0
   pub refused-some : (q : Refusal) → rowRequest s c r ≡ Refused q → 1 ≤ q .number
-  unfolding number-of
   refused-some q e = go answer
     where
       go : Answer (rowRequest s c r) → 1 ≤ q .number
       go (gives a b p g) = clash (cc)
-      go (shape p b) = omega (arith, ap number-of (sym e ∙ p))
-      go (of-font z p m) = omega (arith, ap number-of (sym e ∙ p), font-refusal s z m .0)
+      go (shape p b) = let k : q .number ≡ badShape = cc in omega arith
+      go (of-font z p m) = let k : z .number ≡ q .number = cc in omega (arith, font-refusal s z m .0)

@@ -1,7 +1,7 @@
 -- The calls `row` and `row_refusal` agree for every input: the number is 0 exactly where the row is a row of the character that is used.
 -- Assumes nothing.
 use mathlib.Core.Path.{_≡_, refl, sym, ap, _∙_}
-use mathlib.Core.Bool.{true, true≢false, false≢true}
+use mathlib.Core.Bool.{true, false≢true}
 use mathlib.Core.List.{List, []}
 use mathlib.Core.Logic.{_↔_}
 use Prim.Native.Nat.{ℕ, _+_, _-_, _≤_}
@@ -9,6 +9,7 @@ use native.Mathlib.Omega.{arith}
 use lib.ListN.{take, drop}
 use Rattle.ground.specs.declared.refusals.Refusal.{Refusal}
 use Rattle.ground.specs.Refusals.{badShape}
+use Rattle.ground.proofs.Tests.{clash}
 use Rattle.subchars.specs.declared.Code.{Code}
 use Rattle.lines.specs.Lines.{textAt}
 use Rattle.rows.specs.Rows.{row}
@@ -18,9 +19,9 @@ use Rattle.request.specs.declared.Requested.the-variants as requested-is
 use Rattle.request.specs.Request.{rowRequest}
 use Rattle.request.proofs.RowLaws.{used-stands}
 use Rattle.request.proofs.RequestLaws.{Given, row-only, row-if, BadRequest, refused-17, refused-font, refused-some}
-use Rattle.wattleslate.specs.declared.RowRefusal.{RowRefusal}
 use Rattle.wattleslate.specs.declared.RowRefusal.the-variants.{NotRefused, Refused}
-use Rattle.wattleslate.specs.RowCall.{partOf, rowBytes, RowTold, rowTells, requestTold, rowTold}
+use Rattle.wattleslate.specs.RowCall.{partOf, rowBytes, rowTells, requestTold, rowTold}
+use Rattle.wattleslate.proofs.ToldApart.{row-apart}
 
 -- The answers to a request.
 module _ (s : List ℕ) (c : Code) (r : ℕ) (x : Requested) (p : x ≡ rowRequest s c r) where
@@ -35,13 +36,6 @@ module _ (s : List ℕ) (c : Code) (r : ℕ) (x : Requested) (p : x ≡ rowReque
 -- The part from a place to the place behind its width.
 pub row-part : (s : List ℕ) (c : Code) (r p w : ℕ) → requested-is.Row p w ≡ rowRequest s c r → take (p + w - p) (drop p s) ≡ rowBytes s c r
 row-part s c r p w e = let n : p + w - p ≡ w = omega arith in ap (λ (j : ℕ). take j (drop p s)) n ∙ part-by-request s c r (requested-is.Row p w) e
-
--- two answers that tell the same are the same
-pub refusals-apart : (a b : RowRefusal) → rowTells a ≡ rowTells b → a ≡ b
-refusals-apart NotRefused NotRefused e = refl
-refusals-apart NotRefused (Refused q) e = absurd (false≢true (ap (λ (t : RowTold). t .refused) e))
-refusals-apart (Refused q) NotRefused e = absurd (true≢false (ap (λ (t : RowTold). t .refused) e))
-refusals-apart (Refused q) (Refused z) e = ap (λ (t : RowTold). Refused (record { number = t .number; place = t .place })) e
 
 module _ (s : List ℕ) (c : Code) (r : ℕ) where
   -- The row of the character that is used: where it stands, and its bytes, which are the row of the line there.
@@ -89,8 +83,8 @@ module _ (s : List ℕ) (c : Code) (r : ℕ) where
   told-refused q e = go (rowRequest s c r) e
     where
       go : (x : Requested) → requestTold x ≡ rowTells (Refused q) → x ≡ requested-is.Refused q
-      go (requested-is.Row p w) k = absurd (false≢true (ap (λ (t : RowTold). t .refused) k))
-      go (requested-is.Refused z) k = ap (λ (t : RowTold). requested-is.Refused (record { number = t .number; place = t .place })) k
+      go (requested-is.Row p w) k = let y = row-apart NotRefused (Refused q) k in clash (cc)
+      go (requested-is.Refused z) k = let y = row-apart (Refused z) (Refused q) k in let w : z ≡ q = cc in ap requested-is.Refused w
 
   refused-told : (q : Refusal) → rowRequest s c r ≡ requested-is.Refused q → rowTold s c r ≡ rowTells (Refused q)
   unfolding rowTold
