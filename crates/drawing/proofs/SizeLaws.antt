@@ -1,21 +1,15 @@
 -- What drawing comes to, by the size of the scratch.
 -- Assumes nothing.
-use mathlib.Core.Path.{_≡_, sym, ap, _∙_, subst}
+use mathlib.Core.Path.{_≡_, sym, ap, subst}
 use mathlib.Core.Bool.{Bool, true, false, cond}
 use mathlib.Core.List.{List}
-use Prim.Native.Nat.{ℕ, _-_, _≤_, _<_}
-use native.Mathlib.Omega.{arith}
+use Prim.Native.Nat.{ℕ, _≤_, _<_}
 use lib.Dec.{ltb}
 use borrow.Author.Tests.{lt-ltb, le-ltb}
-use Rattle.ground.specs.Area.{zeros}
 use Rattle.ground.specs.Refusals.{refusal, areaTooSmall}
 use Rattle.ground.specs.Limits.{minScratch}
 use Rattle.figure.specs.declared.DrawAnswer.{DrawAnswer}
 use Rattle.drawing.specs.Drawing.{Lined, unlined, linedOf, drawLined, PutOut}
-
--- Zeros all through an area.
-pub wiped : (area : List ℕ) (n m : ℕ) → area ≡ zeros (n - 0) → n ≡ m → area ≡ zeros m
-wiped area n m e p = let q : n - 0 ≡ m = omega (arith, p) in e ∙ ap zeros q
 
 module _ (size : ℕ) (s control text : List ℕ) where
   by-size : (b : Bool) → ltb size minScratch ≡ b → drawLined size s control text ≡ cond b (unlined (refusal areaTooSmall 0)) (linedOf s control text)

@@ -5,7 +5,7 @@ use native.Mathlib.Omega.{arith}
 use lib.ListN.{length}
 use borrow.Author.Tests.{not-true, not-false}
 use Rattle.join.specs.JoinCall.{joinTells}
-use Rattle.drawing.proofs.SizeLaws.{wiped}
+use Rattle.ground.proofs.Areas.{wiped}
 use Rattle.capi.specs.Numbers.{joinNumber}
 use Rattle.capi.proofs.Bounds.{join-refusal-fits, join-values-fit}
 use Rattle.capi.proofs.JoinLaws.{illegal-told, illegal-area, legal-told, legal-area}

@@ -1,6 +1,6 @@
 -- `drawing::draw` meets its contract.
 -- Assumes nothing.
-use Rattle.drawing.proofs.SizeLaws.{wiped}
+use Rattle.ground.proofs.Areas.{wiped}
 use borrow.Author.Needs.{needs}
 use Rattle.drawing.proofs.draw.Statement.{statement}
 use Rattle.drawing.proofs.draw.Tie as tie
