@@ -27,8 +27,8 @@ use Rattle.join.specs.declared.JoinAnswer.the-variants as join-is
 use Rattle.wattleslate.specs.DrawCall.{drawTells, drawTold}
 use Rattle.join.specs.JoinCall.{JoinTold, joinTells, joinTold}
 use Rattle.wattleslate.proofs.ToldApart.{draw-apart}
-use Rattle.wattleslate.proofs.DrawRefusals.{DrawsTo, scratch-small, font-refused, control-refused, text-too-long, line-too-wide, output-small, draws, drawAnswer, only-so, always}
-use Rattle.wattleslate.proofs.JoinRefusals.{join-refusal, joined-within}
+use Rattle.drawing.proofs.Answers.{DrawsTo, scratch-small, font-refused, control-refused, text-too-long, line-too-wide, output-small, draws, answer, one-of}
+use Rattle.join.proofs.Answers.{refused-tells, joined-within}
 use Rattle.capi.specs.Numbers.{valueBound, placeBound, refusedAt, threeValues, RefusalFits, ValuesFit}
 
 -- A caller that takes an answer apart finds what was put in: a refusal's number, which is not 0, and its place;
@@ -91,22 +91,20 @@ module _ (size : ℕ) (s control text : List ℕ) (room : ℕ) where
   by-reason _ (scratch-small u) = table-fits _ _ (omega arith) (omega arith) (omega arith)
   by-reason _ (font-refused u r f) = font-fits s r f
   by-reason _ (control-refused u h es f r c) = control-fits control r c
-  by-reason _ (text-too-long u h es f cs k c t) = table-fits _ _ (omega arith) (omega arith) (omega arith)
-  by-reason _ (line-too-wide u h es f cs k c t w) = table-fits _ _ (omega arith) (omega arith) (omega arith)
-  by-reason _ (output-small u h es f cs k c t w m) = table-fits _ _ (omega arith) (omega arith) (omega arith)
-  by-reason _ (draws u h es f cs k c t w m) = record { a-in-16 = omega arith; b-in-16 = omega arith; c-in-16 = omega (arith, w) }
+  by-reason _ (text-too-long x t) = table-fits _ _ (omega arith) (omega arith) (omega arith)
+  by-reason _ (line-too-wide x t w) = table-fits _ _ (omega arith) (omega arith) (omega arith)
+  by-reason _ (output-small x t w m) = table-fits _ _ (omega arith) (omega arith) (omega arith)
+  by-reason _ (draws x t w m) = record { a-in-16 = omega arith; b-in-16 = omega arith; c-in-16 = omega (arith, w) }
 
   pub draw-fits : (a : DrawAnswer) → drawTells a ≡ drawTold size s control text room → DrawFits a
   unfolding drawTold
-  draw-fits a e =
-      let x = always size s control text room in
-      subst DrawFits (sym (draw-apart a (drawAnswer size s control text room) e ∙ only-so size s control text room (x .0) (x .1))) (by-reason (x .0) (x .1))
+  draw-fits a e = subst DrawFits (sym (draw-apart a (answer size s control text room) e)) (by-reason _ (one-of size s control text room))
 
 -- A join's.
 module _ (y : Mode) (h n : ℕ) (line : List ℕ) (m : ℕ) (character : List ℕ) (room : ℕ) where
   pub join-refusal-fits : (r : Refusal) → joinTells (join-is.Refused r) ≡ joinTold y h n line m character room → RefusalFits (r .number) (r .place)
   join-refusal-fits r e =
-      let low = join-refusal y h n line m character room (sym (ap (λ (t : JoinTold). t .refused) e)) in
+      let low = refused-tells y h n line m character room (sym (ap (λ (t : JoinTold). t .refused) e)) in
       let number = ap (λ (t : JoinTold). t .number) e in
       table-fits _ _ (omega (arith, number, low .0)) (omega (arith, number, low .1)) (omega (arith, ap (λ (t : JoinTold). t .place) e, low .2))
 

@@ -5,3 +5,4 @@ pub mod OutputLaws
 pub mod SizeLaws
 pub mod HeldLaws
 pub mod DrawingLaws
+pub mod Answers
