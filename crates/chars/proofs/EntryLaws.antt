@@ -5,7 +5,7 @@ use mathlib.Core.List.{List, [], _∷_}
 use Prim.Native.Nat.{ℕ, zero, suc, _+_, _≤_, _<_}
 use native.Mathlib.Omega.{arith}
 use lib.ListN.{length, drop}
-use Rattle.ground.specs.Refusals.{refusal, missingLine}
+use Rattle.ground.specs.Refusals.{refusal, missingLine, tooManyCharacters}
 use Rattle.ground.specs.declared.refusals.Refusal.{Refusal}
 use Rattle.ground.specs.Limits.{maxCharacters}
 use Rattle.subchars.specs.declared.Code.{Code}
@@ -63,7 +63,7 @@ listing-sound f size cs n ls h =
 -- Characters are stopped by 5 to 8, and by nothing else, at a place within the font or at its end.
 pub data StopsInside (size : ℕ) : Ending → Type 0 where
   end : StopsInside size finished
-  by : (r : Refusal) → 5 ≤ r .number → r .number ≤ 8 → r .place ≤ size → StopsInside size (stopped r)
+  by : (r : Refusal) → missingLine ≤ r .number → r .number ≤ tooManyCharacters → r .place ≤ size → StopsInside size (stopped r)
 
 character-stops : (f : Format) (size : ℕ) (c : Code) (ls : List TextLine) (more : Listing) → Starting size ls → StopsInside size (more .ending) → StopsInside size (characterThen f size c ls more .ending)
 character-stops f size c [] more t s = by (refusal missingLine size) (omega arith) (omega arith) (omega arith)

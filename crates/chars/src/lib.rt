@@ -42,7 +42,7 @@ pub enum CharNext {
     Stopped(Refusal),
 }
 
-// Of the required codes the first 95 are 32 to 126, and the others these.
+// The required codes: those of ASCII from 32 to 126, and the seven of Deutsch.
 const REQUIRED: usize = 102;
 
 const ASCII: usize = 95;
@@ -66,7 +66,7 @@ pub fn same_code(a: Code, b: Code) -> bool
     a.0 == b.0
 }
 
-// The code that a tag line gives; -1 is none.
+// The code that a tag line gives; -1 is not one.
 fn tag_of(t: &[u8]) -> TagStep
     ensures { λ r. ⌜ r ≡ tagOf (now (t .entry)) ⌝ }
 {

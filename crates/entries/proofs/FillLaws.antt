@@ -27,7 +27,7 @@ use Rattle.reader.specs.Reader.{ReadInto, fontAnswer, entriesOf}
 use Rattle.reader.proofs.ReadLaws.{read-says}
 use Rattle.entries.specs.declared.listing.Listed.{Listed}
 use Rattle.entries.specs.Filling.{fontReading, zeroEntry, withZeros, indexOf}
-use Rattle.entries.specs.Steps.{listedOf}
+use Rattle.entries.specs.Steps.{arrayLength, listedOf}
 use Rattle.entries.proofs.Moved.{moved, moved-next, zero-behind, zeros-left}
 
 -- The lists hold an entry's code, start and width.
@@ -57,13 +57,13 @@ module _ (m : FontReading) (codes : List ℤ) (starts widths : List ℕ) (r : Fo
   read-few h n p = omega (arith, read-says m h n (sym p ∙ i .answer) .count, i .lists .few)
 
   pub read-listed : (h : Header) (n : ℕ) (es : List Entry) → r ≡ Read h n →
-      ((l : List Entry) → n ≡ length l → Lists l codes starts widths → es ≡ withZeros l 513) →
+      ((l : List Entry) → n ≡ length l → Lists l codes starts widths → es ≡ withZeros l arrayLength) →
       _≡_ {A = Listed} (record { answer = Read h n; entries = es }) (listedOf m)
   unfolding indexOf
   read-listed h n es p f =
       let s = read-says m h n (sym p ∙ i .answer) in
       (λ j. record { answer = Read h (s .count j); entries = f (entriesOf m) (s .count) (i .lists) j }) ∙
-      sym (ap (λ (x : FontReading). record { answer = fontAnswer x; entries = indexOf m 513 }) (s .is))
+      sym (ap (λ (x : FontReading). record { answer = fontAnswer x; entries = indexOf m arrayLength }) (s .is))
 
 -- Whether an index has room, and what it holds.
 module _ (s : List ℕ) (room : ℕ) where
@@ -102,11 +102,11 @@ module _ (s : List ℕ) (room : ℕ) where
   index-room = index-length room (few .1)
 
   -- what is moved to place i of the index: the entry there, which for a place behind the array is its last
-  pub index-at : (i : ℕ) → getD (indexOf (fontReading room s) 513) (min i maxCharacters) zeroEntry ≡ getD (indexOf (fontReading room s) room) i zeroEntry
+  pub index-at : (i : ℕ) → getD (indexOf (fontReading room s) arrayLength) (min i maxCharacters) zeroEntry ≡ getD (indexOf (fontReading room s) room) i zeroEntry
   unfolding indexOf
   index-at i =
       let es = entriesOf (fontReading room s) in
-      zero-behind zeroEntry es (513 - length es) (min i maxCharacters) ∙ go es (few .0) (ltb maxCharacters i) refl ∙ sym (zero-behind zeroEntry es (room - length es) i)
+      zero-behind zeroEntry es (arrayLength - length es) (min i maxCharacters) ∙ go es (few .0) (ltb maxCharacters i) refl ∙ sym (zero-behind zeroEntry es (room - length es) i)
     where
       go : (es : List Entry) → length es ≤ maxCharacters → (b : Bool) → ltb maxCharacters i ≡ b → getD es (min i maxCharacters) zeroEntry ≡ getD es i zeroEntry
       go es h true p =

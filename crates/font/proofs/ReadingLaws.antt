@@ -134,10 +134,10 @@ module _ (s : List ℕ) where
   deciding = below-or-not maxFontLength (length s)
 
   -- a font is refused by 1 to 8, at a place within it or at its end
-  pub font-refusal : (r : Refusal) → reading s ≡ refuses r → (1 ≤ r .number) × (r .number ≤ 8) × (r .place ≤ length s) × (r .place ≤ maxFontLength)
+  pub font-refusal : (r : Refusal) → reading s ≡ refuses r → (fontTooLong ≤ r .number) × (r .number ≤ tooManyCharacters) × (r .place ≤ length s) × (r .place ≤ maxFontLength)
   font-refusal r e = go deciding
     where
-      go : (maxFontLength < length s) ⊎ (length s ≤ maxFontLength) → (1 ≤ r .number) × (r .number ≤ 8) × (r .place ≤ length s) × (r .place ≤ maxFontLength)
+      go : (maxFontLength < length s) ⊎ (length s ≤ maxFontLength) → (fontTooLong ≤ r .number) × (r .number ≤ tooManyCharacters) × (r .place ≤ length s) × (r .place ≤ maxFontLength)
       go (inl h) =
           let is : refuses (refusal fontTooLong 0) ≡ refuses r = sym (long-is h) ∙ e in
           let n : r .number ≡ fontTooLong = cc in

@@ -26,7 +26,7 @@ module _ (t : List ℕ) where
   no-signature e = simp e
 
   module _ (e : begins fontSignature t ≡ true) where
-    signed : readHeader t ≡ afterSignature (drop 5 t)
+    pub signed : readHeader t ≡ afterSignature (drop 5 t)
     unfolding readHeader
     signed = simp e
 

@@ -22,6 +22,7 @@ use Rattle.header.specs.declared.HeaderStep.{HeaderStep}
 use Rattle.header.specs.declared.HeaderStep.the-variants.{Good, Refused}
 use Rattle.subchars.specs.Pair.{legalHardblank}
 use Rattle.header.specs.Header.{parameterNumbers, parameters, legalParameters, header, refused, headerWith, headerOf, afterHardblank, afterSignature, fontSignature, readHeader}
+use Rattle.header.proofs.LineLaws.{no-signature, signed}
 use Rattle.header.proofs.ParameterLaws.{too-few, High, high}
 
 -- 3: "hardblank absent, or blank, CR, LF, NUL", of what follows flf2a.
@@ -97,7 +98,7 @@ good-hardblank : (u : List ℕ) (h : ℕ) (rest : List ℕ) → u ≡ h ∷ rest
 unfolding afterSignature
 good-hardblank u h rest e b p = ap afterSignature e ∙ simp b (bad-parameters (record { 0 = h }) rest p)
 
--- Which of the two refusals it is, by its number.
+-- Which refusal it is, by its number.
 unnumbered : (u : List ℕ) (x : HeaderStep) (r : Refusal) → Signed u x → x ≡ Refused r → r .number ≡ noSignature → ⊥
 unnumbered u x r (unblank b e) q n = let m : r .number ≡ badHardblank = cc in omega arith
 unnumbered u x r (blank h rest e b (fine y g t)) q n = clash (cc)
@@ -118,23 +119,21 @@ by-parameters u x r (blank h rest e b (fine y g t)) q n = clash (cc)
 by-parameters u x r (blank h rest e b (bad p g)) q n = (h, rest, e, b, p)
 
 module _ (t : List ℕ) where
-  with-signature : begins fontSignature t ≡ true → readHeader t ≡ afterSignature (drop 5 t)
-  unfolding readHeader
-  with-signature e = simp e
+  with-signature : begins fontSignature t ≡ true → readHeader t ≡ afterSignature (drop (length fontSignature) t)
+  with-signature e = signed t e
 
   without-signature : begins fontSignature t ≡ false → readHeader t ≡ refused noSignature
-  unfolding readHeader
-  without-signature e = simp e
+  without-signature e = sym (no-signature t e)
 
-  signed : Signed (drop 5 t) (afterSignature (drop 5 t))
-  signed = signed-is (drop 5 t)
+  behind : Signed (drop (length fontSignature) t) (afterSignature (drop (length fontSignature) t))
+  behind = signed-is (drop (length fontSignature) t)
 
   -- 2: "first line does not begin with flf2a"
   pub refused-2 : readHeader t ≡ refused noSignature ↔ begins fontSignature t ≡ false
   refused-2 = (λ q. only (begins fontSignature t) refl q, without-signature)
     where
       only : (b : Bool) → begins fontSignature t ≡ b → readHeader t ≡ refused noSignature → begins fontSignature t ≡ false
-      only true e q = absurd (unnumbered (drop 5 t) _ _ signed (sym (with-signature e) ∙ q) refl)
+      only true e q = absurd (unnumbered (drop (length fontSignature) t) _ _ behind (sym (with-signature e) ∙ q) refl)
       only false e q = e
 
   -- a line that does not begin with flf2a has no other refusal
@@ -142,22 +141,22 @@ module _ (t : List ℕ) where
   unsigned r e q = let p : refused noSignature ≡ Refused r = sym (without-signature e) ∙ q in cc
 
   -- 3, where the line begins with flf2a
-  pub refused-3 : readHeader t ≡ refused badHardblank ↔ ((begins fontSignature t ≡ true) × BadHardblank (drop 5 t))
-  refused-3 = (λ q. only (begins fontSignature t) refl q, λ w. with-signature (w .0) ∙ bad-hardblank (drop 5 t) (w .1))
+  pub refused-3 : readHeader t ≡ refused badHardblank ↔ ((begins fontSignature t ≡ true) × BadHardblank (drop (length fontSignature) t))
+  refused-3 = (λ q. only (begins fontSignature t) refl q, λ w. with-signature (w .0) ∙ bad-hardblank (drop (length fontSignature) t) (w .1))
     where
-      only : (b : Bool) → begins fontSignature t ≡ b → readHeader t ≡ refused badHardblank → (begins fontSignature t ≡ true) × BadHardblank (drop 5 t)
-      only true e q = (e, by-hardblank (drop 5 t) _ _ signed (sym (with-signature e) ∙ q) refl)
+      only : (b : Bool) → begins fontSignature t ≡ b → readHeader t ≡ refused badHardblank → (begins fontSignature t ≡ true) × BadHardblank (drop (length fontSignature) t)
+      only true e q = (e, by-hardblank (drop (length fontSignature) t) _ _ behind (sym (with-signature e) ∙ q) refl)
       only false e q = absurd (omega (arith, unsigned _ e q))
 
   -- 4, where the line begins with flf2a and a hardblank
-  pub refused-4 : readHeader t ≡ refused badParameters ↔ ((begins fontSignature t ≡ true) × Followed (drop 5 t))
+  pub refused-4 : readHeader t ≡ refused badParameters ↔ ((begins fontSignature t ≡ true) × Followed (drop (length fontSignature) t))
   refused-4 = (
     λ q. only (begins fontSignature t) refl q,
-    λ w. with-signature (w .0) ∙ good-hardblank (drop 5 t) (w .1 .0) (w .1 .1) (w .1 .2) (w .1 .3) (w .1 .4),
+    λ w. with-signature (w .0) ∙ good-hardblank (drop (length fontSignature) t) (w .1 .0) (w .1 .1) (w .1 .2) (w .1 .3) (w .1 .4),
   )
     where
-      only : (b : Bool) → begins fontSignature t ≡ b → readHeader t ≡ refused badParameters → (begins fontSignature t ≡ true) × Followed (drop 5 t)
-      only true e q = (e, by-parameters (drop 5 t) _ _ signed (sym (with-signature e) ∙ q) refl)
+      only : (b : Bool) → begins fontSignature t ≡ b → readHeader t ≡ refused badParameters → (begins fontSignature t ≡ true) × Followed (drop (length fontSignature) t)
+      only true e q = (e, by-parameters (drop (length fontSignature) t) _ _ behind (sym (with-signature e) ∙ q) refl)
       only false e q = absurd (omega (arith, unsigned _ e q))
 
   -- a header is refused with no other number, and always at place 0
@@ -180,7 +179,7 @@ module _ (t : List ℕ) where
   header-refusal r q = go (begins fontSignature t) refl
     where
       go : (b : Bool) → begins fontSignature t ≡ b → HeaderRefusal r
-      go true e = signed-numbers (drop 5 t) (afterSignature (drop 5 t)) r signed (sym (with-signature e) ∙ q)
+      go true e = signed-numbers (drop (length fontSignature) t) (afterSignature (drop (length fontSignature) t)) r behind (sym (with-signature e) ∙ q)
       go false e = known noSignature r (omega arith) (omega arith) (sym (without-signature e) ∙ q)
 
   -- a header that is read has 1 to 32 rows
@@ -193,5 +192,5 @@ module _ (t : List ℕ) where
   header-high y q = go (begins fontSignature t) refl
     where
       go : (b : Bool) → begins fontSignature t ≡ b → High (y .height)
-      go true e = signed-high (drop 5 t) (afterSignature (drop 5 t)) y signed (sym (with-signature e) ∙ q)
+      go true e = signed-high (drop (length fontSignature) t) (afterSignature (drop (length fontSignature) t)) y behind (sym (with-signature e) ∙ q)
       go false e = let r = sym (without-signature e) ∙ q in clash (cc)

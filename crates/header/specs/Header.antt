@@ -46,7 +46,7 @@ numbers (suc k) t = thenMore (headerNumber (firstWord t)) (numbers k (afterWord 
 unfoldable pub parameterNumbers : List ℕ → List ℤ
 parameterNumbers t = numbers maxParameters t
 
--- The k-th number of a list from 0, where there is one: a missing one is no 0.
+-- The k-th number of a list, from 0, if there is one: a missing one is not 0.
 unfoldable pub parameter : ℕ → List ℤ → Parameter
 parameter k [] = Missing
 parameter zero (z ∷ zs) = Number z
@@ -80,7 +80,7 @@ minOldLayout = negsuc 0
 unfoldable pub within : ℤ → ℤ → ℤ → Bool
 within low high z = leZ low z && leZ z high
 
--- A number that may be missing is within its bounds where it stands.
+-- A parameter that may be missing is within its bounds if it is there.
 unfoldable pub allowed : ℤ → Parameter → Bool
 allowed high Missing = true
 allowed high (Number z) = within (pos 0) high z

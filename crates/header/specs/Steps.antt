@@ -24,7 +24,7 @@ abbrev pub notNegative : Parameter → Bool
 notNegative Missing = true
 notNegative (Number z) = nonNeg z
 
--- One word by places: the number that the first word from a place on is, and where that word ends.
+-- One word by places, the first from a place on: the number that it is, and where it ends.
 abbrev pub wordNext : Read → ℕ → WordStep
 wordNext (Value z) next = Word z next
 wordNext NotNumber next = NoWord

@@ -23,7 +23,7 @@ pub enum Found {
     Nowhere,
 }
 
-// Writes the characters of a font from a cursor on into the index, one pass over the font.
+// Writes the characters of a font, from a cursor on, into the index: one pass over the font.
 pub fn fill(
     f: Format,
     s: &[u8],

@@ -43,7 +43,7 @@ fn format_of(h: Header) -> Format
     }
 }
 
-// Writes the characters of a font whose header was read into the lists; they start at a cursor.
+// Reads the characters of a font into the lists. Its header was read, and they start at a cursor.
 fn read_characters(
     h: Header,
     font: &[u8],
@@ -114,7 +114,7 @@ pub fn find_entry(
     entry_at(codes, starts, widths, count, found)
 }
 
-// The same, where the last places of the codes below 256 are at hand.
+// The same, with the last places of the small codes.
 pub fn find_known(
     codes: &[i32],
     starts: &[usize],

@@ -10,7 +10,7 @@ use lib.Dec.{ltb}
 use lib.IntN.{ℤ}
 use lib.ListN.{length}
 use borrow.Author.Tests.{lt-ltb, le-ltb, ltb-true, ltb-false}
-use Rattle.ground.specs.Refusals.{refusal, badShape}
+use Rattle.ground.specs.Refusals.{refusal, tooManyCharacters, badShape}
 use Rattle.ground.specs.declared.refusals.Refusal.{Refusal}
 use Rattle.ground.proofs.Tests.{clash}
 use Rattle.ground.specs.Limits.{maxCharacters}
@@ -159,7 +159,7 @@ module _ (s : List ℕ) (c : Code) (r : ℕ) where
       to x n e (of-font z q m) = let k : z .number ≡ x .number = cc in absurd (omega (arith, font-refusal s z m .1))
 
   -- the font's own refusals, exactly those of the font
-  pub refused-font : (q : Refusal) → q .number ≤ 8 → rowRequest s c r ≡ Refused q ↔ reading s ≡ refuses q
+  pub refused-font : (q : Refusal) → q .number ≤ tooManyCharacters → rowRequest s c r ≡ Refused q ↔ reading s ≡ refuses q
   unfolding rowRequest sought
   refused-font q h = (λ e. to e answer, λ m. ap (λ (x : FontReading). rowOfSought s r (sought c x)) m)
     where

@@ -52,7 +52,7 @@ fn bad_request() -> Requested
     })
 }
 
-// The row of a character stands as many lines behind its first row line as the row number says.
+// Where a row stands: as many lines behind the character's first row line as the row number says.
 pub fn request(font: &[u8], code: Code, row: usize) -> Requested
     ensures { λ r. ⌜ r ≡ rowRequest (now (font .entry)) code row ⌝ }
 {

@@ -8,7 +8,7 @@ use Prim.Native.Nat.{ℕ, zero, suc, _≤_, _<_}
 use native.Mathlib.Omega.{arith}
 use lib.Dec.{ltb, leb}
 use lib.ListN.{length, take}
-use borrow.Author.Tests.{lt-ltb, le-ltb, le-leb, lt-leb, ltb-true, ltb-false, leb-false, eqb-false, ne-eqb}
+use borrow.Author.Tests.{lt-ltb, le-ltb, le-leb, lt-leb, ltb-true, ltb-false, leb-false, eqb-true, eqb-false, ne-eqb}
 use Rattle.ground.specs.Runs.{all}
 use Rattle.ground.proofs.Tests.{and-left-false, and-right-false, clash}
 use Rattle.rows.specs.declared.Format.{Format}
@@ -73,7 +73,19 @@ module _ (f : Format) (t : List ℕ) where
         some zero q = absurd (q refl)
         some (suc n) q = omega arith
 
--- A row is shorter than its line.
+-- A line that holds a row: its width is the row's, and a row is shorter than its line.
+pub row-width : (f : Format) (t : List ℕ) (w : ℕ) → rowOf f t ≡ Width w → w ≡ length (row t)
+unfolding rowOf
+row-width f t w e = go (goodLine f t) e
+  where
+    go : (b : Bool) → cond b (Width (length (row t))) BadRow ≡ Width w → w ≡ length (row t)
+    go true p = cc
+    go false p = clash (cc)
+
+pub has-width : (r : RowStep) (w : ℕ) → hasWidth r w ≡ true → r ≡ Width w
+has-width (Width v) w e = ap Width (eqb-true v w e)
+has-width BadRow w e = clash (cc)
+
 pub width-less : (f : Format) (t : List ℕ) (w : ℕ) → rowOf f t ≡ Width w → w < length t
 unfolding rowOf goodLine
 width-less f t w e = go (ltb 0 (length t)) refl (leb (length t) (f .«max_length»)) (all (legalByte (f .hardblank .0)) (row t)) e

@@ -112,22 +112,22 @@ module _ (f : Format) (size : ℕ) where
           ap (λ (j : ℕ). refused (refusal missingLine j)) (sym (m .1))
 
   -- rows are refused with no other number
-  rows-numbers : (k w : ℕ) (ls : List TextLine) (r : Refusal) → rowsOn f size k w ls ≡ refused r → (5 ≤ r .number) × (r .number ≤ 6)
+  rows-numbers : (k w : ℕ) (ls : List TextLine) (r : Refusal) → rowsOn f size k w ls ≡ refused r → (missingLine ≤ r .number) × (r .number ≤ badRow)
   unfolding rowsOn
   rows-numbers zero w ls r e = clash (cc)
   rows-numbers (suc k) w [] r e = let n : r .number ≡ missingLine = cc in (omega arith, omega arith)
   rows-numbers (suc k) w (l ∷ ls) r e = go (hasWidth (rowOf f (l .text)) w) e (rows-numbers k w ls r)
     where
-      go : (b : Bool) → cond b (rowsOn f size k w ls) (refused (refusal badRow (l .start))) ≡ refused r → (rowsOn f size k w ls ≡ refused r → (5 ≤ r .number) × (r .number ≤ 6)) → (5 ≤ r .number) × (r .number ≤ 6)
+      go : (b : Bool) → cond b (rowsOn f size k w ls) (refused (refusal badRow (l .start))) ≡ refused r → (rowsOn f size k w ls ≡ refused r → (missingLine ≤ r .number) × (r .number ≤ badRow)) → (missingLine ≤ r .number) × (r .number ≤ badRow)
       go true q more = more q
       go false q more = let n : r .number ≡ badRow = cc in (omega arith, omega arith)
 
-  pub refused-numbers : (ls : List TextLine) (r : Refusal) → characterRows f size ls ≡ refused r → (5 ≤ r .number) × (r .number ≤ 6)
+  pub refused-numbers : (ls : List TextLine) (r : Refusal) → characterRows f size ls ≡ refused r → (missingLine ≤ r .number) × (r .number ≤ badRow)
   unfolding characterRows
   refused-numbers [] r e = let n : r .number ≡ missingLine = cc in (omega arith, omega arith)
   refused-numbers (l ∷ ls) r e = go (rowOf f (l .text)) e
     where
-      go : (x : RowStep) → otherRows f size (l .start) x ls ≡ refused r → (5 ≤ r .number) × (r .number ≤ 6)
+      go : (x : RowStep) → otherRows f size (l .start) x ls ≡ refused r → (missingLine ≤ r .number) × (r .number ≤ badRow)
       go (Width w) q = rows-numbers (f .height - 1) w ls r q
       go BadRow q = let n : r .number ≡ badRow = cc in (omega arith, omega arith)
 

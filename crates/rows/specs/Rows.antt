@@ -56,6 +56,6 @@ unfoldable pub characterRows : Format → ℕ → List TextLine → Rows
 characterRows f size [] = refused (refusal missingLine size)
 characterRows f size (l ∷ ls) = otherRows f size (l .start) (rowOf f (l .text)) ls
 
--- How many lines a character has: Height, which a header does not let be 0.
+-- How many lines a character has: Height, which is 0 in no header.
 abbrev pub lineCount : Format → ℕ
 lineCount f = suc (f .height - 1)

@@ -80,7 +80,7 @@ fn are_legal(t: &[u8], hardblank: SubCharacter) -> bool
     true
 }
 
-// What a row line holds, where it may be known that all its bytes are 32 or above. Nothing else knows how a row is written.
+// What a row line holds; `plain` says that all its bytes are known to be 32 or above. Only this function knows how a row is written.
 fn row_where(f: Format, t: &[u8], plain: bool) -> RowStep
     requires { ⌜ (plain ≡ true → all isPlain (now t) ≡ true) ⌝ }
     ensures { λ r. ⌜ r ≡ rowOf f (now (t .entry)) ⌝ }
@@ -153,7 +153,7 @@ pub fn row_at(f: Format, s: &[u8], cursor: Cursor) -> RowAt
     }
 }
 
-// The same, where it has the given width.
+// The same, if it has the given width.
 fn same_at(f: Format, s: &[u8], cursor: Cursor, width: usize) -> RowAt
     ensures { λ r. ⌜ r ≡ sameAt f (now (s .entry)) (cursor .at) width ⌝ }
 {
@@ -169,7 +169,7 @@ fn same_at(f: Format, s: &[u8], cursor: Cursor, width: usize) -> RowAt
     }
 }
 
-// As many rows as `count` says, of the given width.
+// The next `count` rows, all of the given width.
 fn rows_at(f: Format, s: &[u8], from: Cursor, count: usize, width: usize) -> CharStep
     ensures { λ r. ⌜ r ≡ rowsAt f (now (s .entry)) (from .at) count width ⌝ }
 {

@@ -8,7 +8,7 @@ use Prim.Native.Nat.{ℕ, _+_, _-_, _≤_}
 use native.Mathlib.Omega.{arith}
 use lib.ListN.{take, drop}
 use Rattle.ground.specs.declared.refusals.Refusal.{Refusal}
-use Rattle.ground.specs.Refusals.{badShape}
+use Rattle.ground.specs.Refusals.{tooManyCharacters, badShape}
 use Rattle.ground.proofs.Tests.{clash}
 use Rattle.subchars.specs.declared.Code.{Code}
 use Rattle.lines.specs.Lines.{textAt}
@@ -91,7 +91,7 @@ module _ (s : List ℕ) (c : Code) (r : ℕ) where
   refused-told q e = ap requestTold e
 
   -- The font's refusals, exactly those of the font.
-  pub told-font : (q : Refusal) → q .number ≤ 8 → rowTold s c r ≡ rowTells (Refused q) ↔ reading s ≡ refuses q
+  pub told-font : (q : Refusal) → q .number ≤ tooManyCharacters → rowTold s c r ≡ rowTells (Refused q) ↔ reading s ≡ refuses q
   told-font q h = (λ e. refused-font s c r q h .0 (told-refused q e), λ m. refused-told q (refused-font s c r q h .1 m))
 
   -- 17, "join or row request of bad shape", exactly then, at 0.
