@@ -47,6 +47,9 @@ enum status close_output(void);
 void show(const uint8_t *bytes, size_t length, size_t most);
 void show_string(const char *string);
 
+/* Shows a text by its first 60 bytes, or by its line of standard input. */
+void show_text(const struct text *text);
+
 /* Says why a file or a text was refused, and gives the status REFUSED. */
 enum status file_refused(const struct file *file, uint64_t answer);
 enum status text_refused(const struct text *text, uint64_t answer);

@@ -154,3 +154,11 @@ void show_string(const char *string) {
     size_t length = strlen(string);
     show((const uint8_t *)string, length, length);
 }
+
+void show_text(const struct text *text) {
+    if (text->line > 0) {
+        fprintf(stderr, "standard input:%zu", text->line);
+    } else {
+        show(text->bytes, text->length, 60);
+    }
+}

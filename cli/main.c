@@ -76,7 +76,8 @@ struct files {
     uint32_t height;
 };
 
-/* Loads the font and the control file that were asked for and has the library read them. What is wrong with either is said once, and not for each name. */
+/* Loads the font and the control file that were asked for and has the library read them. What is wrong with either is said once, not for each
+ * name. */
 static enum status take_files(const struct call *call, struct files *files) {
     static uint8_t font_area[WATTLESLATE_MAX_FONT + 1], control_area[WATTLESLATE_MAX_CONTROL + 1];
     enum status status = GOOD;

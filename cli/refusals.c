@@ -74,8 +74,8 @@ static size_t max_length(const struct file *font) {
     return value;
 }
 
-/* Which of the four reasons of refusal 6 the line at a place gives, with the column of the first byte at fault where there is one. The last reason is the
- * one that is left when none of the others is there. The header of the font was accepted. */
+/* Which of the four reasons of refusal 6 the line at a place gives, with the column of the first byte at fault where there is one. The last reason
+ * is the one that is left when none of the others is there. The header of the font was accepted. */
 static const char *row_fault(const struct file *font, size_t start, size_t *column) {
     size_t end = line_end(font, start), most = max_length(font), behind = end;
     if (end == start) {
@@ -120,11 +120,7 @@ enum status file_refused(const struct file *file, uint64_t answer) {
 }
 
 enum status text_refused(const struct text *text, uint64_t answer) {
-    if (text->line > 0) {
-        fprintf(stderr, "standard input:%zu", text->line);
-    } else {
-        show(text->bytes, text->length, 60);
-    }
+    show_text(text);
     fprintf(stderr, ": %s (refusal %d)\n", refusal_of(answer).sentence, (int)wattleslate_number(answer));
     return REFUSED;
 }
