@@ -85,7 +85,7 @@ uint64_t wattleslate_check_control(const uint8_t *file, size_t file_len);
 uint64_t wattleslate_draw(const uint8_t *font, size_t font_len, const uint8_t *control, size_t control_len, const uint8_t *text,
                           size_t text_len, uint8_t *scratch, size_t scratch_len, uint8_t *out, size_t out_len);
 
-/* Puts a FIGcharacter to a line of equal height: to its right from left to right, otherwise to its left. A block's rows lie one after another; `out` then holds
+/* Joins a FIGcharacter to a line of equal height, at its right when writing left to right, otherwise at its left. A block's rows lie one after another; `out` then holds
  * the result's, and zeros behind them. Refusals: 17 (height outside 1 to 32, line wider than 1,000, character wider than 199, a
  * block that is not height times width long, a hardblank that is blank, CR, LF or NUL, a layout over 32,767, a direction other than 0
  * and 1), 16, then 9. Values: wattleslate_overlap and wattleslate_width. */
