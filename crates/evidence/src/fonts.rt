@@ -96,8 +96,10 @@ pub(crate) fn show_row(font: &[u8], word: &[u8], row: &[u8]) {
     text(row);
     text(b": ");
     match wattleslate::row_refusal(font, code_of(word), row_of(row)) {
-        RowRefusal::NotRefused => {
-            text(b"`");
+        RowRefusal::NotRefused { place, width } => {
+            named(b"at ", place);
+            named(b", width ", width);
+            text(b", `");
             text(wattleslate::row(font, code_of(word), row_of(row)));
             text(b"`");
         }

@@ -1,14 +1,14 @@
 -- The calls `row` and `row_refusal` agree for every input: the number is 0 exactly where the row is a row of the character that is used.
 -- Assumes nothing.
-use mathlib.Core.Path.{_≡_, refl, sym, ap, _∙_}
-use mathlib.Core.Bool.{true, false≢true}
+use mathlib.Core.Path.{_≡_, refl, sym, ap, ap₂, _∙_}
+use mathlib.Core.Bool.{true, false≢true, true≢false}
 use mathlib.Core.List.{List, []}
 use mathlib.Core.Logic.{_↔_}
 use Prim.Native.Nat.{ℕ, _+_, _-_, _≤_}
 use native.Mathlib.Omega.{arith}
-use lib.ListN.{take, drop}
+use lib.ListN.{length, take, drop}
 use Rattle.ground.specs.declared.refusals.Refusal.{Refusal}
-use Rattle.ground.specs.Refusals.{tooManyCharacters, badShape}
+use Rattle.ground.specs.Refusals.{refusal, tooManyCharacters, badShape}
 use Rattle.ground.proofs.Tests.{clash}
 use Rattle.subchars.specs.declared.Code.{Code}
 use Rattle.lines.specs.Lines.{textAt}
@@ -18,9 +18,9 @@ use Rattle.request.specs.declared.Requested.{Requested}
 use Rattle.request.specs.declared.Requested.the-variants as requested-is
 use Rattle.request.specs.Request.{rowRequest}
 use Rattle.request.proofs.RowLaws.{used-stands}
-use Rattle.request.proofs.RequestLaws.{Given, row-only, row-if, BadRequest, refused-17, refused-font, refused-some}
+use Rattle.request.proofs.RequestLaws.{Given, row-fits, row-only, row-if, BadRequest, refused-17, refused-font, refused-some}
 use Rattle.wattleslate.specs.declared.RowRefusal.the-variants.{NotRefused, Refused}
-use Rattle.wattleslate.specs.RowCall.{partOf, rowBytes, rowTells, requestTold, rowTold}
+use Rattle.wattleslate.specs.RowCall.{RowTold, partOf, rowBytes, rowTells, requestTold, rowTold}
 use Rattle.wattleslate.proofs.ToldApart.{row-apart}
 
 -- The answers to a request.
@@ -83,7 +83,7 @@ module _ (s : List ℕ) (c : Code) (r : ℕ) where
   told-refused q e = go (rowRequest s c r) e
     where
       go : (x : Requested) → requestTold x ≡ rowTells (Refused q) → x ≡ requested-is.Refused q
-      go (requested-is.Row p w) k = let y = row-apart NotRefused (Refused q) k in clash (cc)
+      go (requested-is.Row p w) k = let y = row-apart (NotRefused p w) (Refused q) k in clash (cc)
       go (requested-is.Refused z) k = let y = row-apart (Refused z) (Refused q) k in let w : z ≡ q = cc in ap requested-is.Refused w
 
   refused-told : (q : Refusal) → rowRequest s c r ≡ requested-is.Refused q → rowTold s c r ≡ rowTells (Refused q)
@@ -95,5 +95,18 @@ module _ (s : List ℕ) (c : Code) (r : ℕ) where
   told-font q h = (λ e. refused-font s c r q h .0 (told-refused q e), λ m. refused-told q (refused-font s c r q h .1 m))
 
   -- 17, "join or row request of bad shape", exactly then, at 0.
-  pub told-17 : (p : ℕ) → rowTold s c r ≡ record { refused = true; number = badShape; place = p } ↔ ((p ≡ 0) × BadRequest s c r)
-  told-17 p = (λ e. refused-17 s c r p .0 (told-refused (record { number = badShape; place = p }) e), λ w. refused-told (record { number = badShape; place = p }) (refused-17 s c r p .1 w))
+  pub told-17 : (p : ℕ) → rowTold s c r ≡ rowTells (Refused (refusal badShape p)) ↔ ((p ≡ 0) × BadRequest s c r)
+  told-17 p = (λ e. refused-17 s c r p .0 (told-refused (refusal badShape p) e), λ w. refused-told (refusal badShape p) (refused-17 s c r p .1 w))
+
+  -- "A row request gives the row as a part of the font": where the one call tells a start and a width, the other gives the part there, which lies
+  -- in the font.
+  pub part-told : (p w : ℕ) → rowTold s c r ≡ rowTells (NotRefused p w) → (rowBytes s c r ≡ take w (drop p s)) × (p + w ≤ length s)
+  unfolding rowTold rowBytes
+  part-told p w e = go (rowRequest s c r) refl e
+    where
+      go : (x : Requested) → rowRequest s c r ≡ x → requestTold x ≡ rowTells (NotRefused p w) → (partOf s (rowRequest s c r) ≡ take w (drop p s)) × (p + w ≤ length s)
+      go (requested-is.Row q v) m k =
+          let start : q ≡ p = ap (λ (t : RowTold). t .start) k in
+          let width : v ≡ w = ap (λ (t : RowTold). t .width) k in
+          (ap (partOf s) m ∙ ap₂ (λ (j n : ℕ). take n (drop j s)) start width, omega (arith, start, width, row-fits s c r q v m))
+      go (requested-is.Refused z) m k = absurd (true≢false (ap (λ (t : RowTold). t .refused) k))

@@ -19,18 +19,21 @@ partOf s (requested-is.Refused q) = []
 unfoldable pub rowBytes : List ℕ → Code → ℕ → List ℕ
 rowBytes s c r = partOf s (rowRequest s c r)
 
--- "A call beside the row request tells its number." "A refusal answers its number and place"; both are 0 where there is none.
+-- "A call beside the row request tells its number." "A refusal answers its number and place; other numbers are 0." Where there is none it tells where the
+-- part starts and how wide it is.
 pub record RowTold : Type 0 where
   pub refused : Bool
   pub number : ℕ
   pub place : ℕ
+  pub start : ℕ
+  pub width : ℕ
 
 abbrev pub rowTells : RowRefusal → RowTold
-rowTells NotRefused = record { refused = false; number = 0; place = 0 }
-rowTells (Refused q) = record { refused = true; number = q .number; place = q .place }
+rowTells (NotRefused start width) = record { refused = false; number = 0; place = 0; start = start; width = width }
+rowTells (Refused q) = record { refused = true; number = q .number; place = q .place; start = 0; width = 0 }
 
 abbrev pub requestTold : Requested → RowTold
-requestTold (requested-is.Row place width) = rowTells NotRefused
+requestTold (requested-is.Row place width) = rowTells (NotRefused place width)
 requestTold (requested-is.Refused q) = rowTells (Refused q)
 
 unfoldable pub rowTold : List ℕ → Code → ℕ → RowTold

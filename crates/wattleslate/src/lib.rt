@@ -41,9 +41,9 @@ pub enum LookUpAnswer {
     Refused(Refusal),
 }
 
-// Whether a row request is refused.
+// Whether a row request is refused, and where not, where in the font the row starts and how wide it is.
 pub enum RowRefusal {
-    NotRefused,
+    NotRefused { place: usize, width: usize },
     Refused(Refusal),
 }
 
@@ -77,12 +77,12 @@ pub fn row<'a>(font: &'a [u8], code: Code, row: usize) -> &'a [u8]
     }
 }
 
-// The number and place of the same row request: the font's refusals, then 17.
+// The refusal of the same row request, the font's or else 17; or where in the font the row starts and how wide it is.
 pub fn row_refusal(font: &[u8], code: Code, row: usize) -> RowRefusal
     ensures answer { λ r. ⌜ rowTells r ≡ rowTold (now (font .entry)) code row ⌝ }
 {
     match request::request(font, code, row) {
-        Requested::Row { place: _, width: _ } => RowRefusal::NotRefused,
+        Requested::Row { place, width } => RowRefusal::NotRefused { place, width },
         Requested::Refused(r) => RowRefusal::Refused(r),
     }
 }
