@@ -19,7 +19,9 @@ use Rattle.subchars.specs.declared.Rule.the-variants.{Hierarchy, BigX, Hardblan
 use Rattle.subchars.specs.declared.Mode.{Mode}
 use Rattle.subchars.specs.declared.Joint.{Joint}
 use Rattle.subchars.specs.declared.Joint.the-variants.{ByUniversal, ByRule, Unjoinable}
-use Rattle.subchars.specs.Layouts.{oldLayout, fullLayout}
+use Rattle.subchars.specs.Layouts.{fullLayout}
+use Rattle.header.specs.declared.Given.the-variants.{Absent, Of}
+use Rattle.header.specs.Header.{layoutOf}
 use Rattle.subchars.specs.Pair.{legalHardblank, joinedIf, orElse, equalCharacter, underscore, classOf, hierarchy, opposite, oppositePair, bigX, controlled, universal, joint, joins}
 use Rattle.lanes.specs.Overlap.{laneFacing, facing, hasBlank, free, fitting, oneMore, smushing}
 use Rattle.lanes.specs.Joined.{joinedCells}
@@ -53,9 +55,9 @@ abbrev universally : Layout
 universally = Smushing Universal
 
 data Example : Type 0 where
-  -- Old_Layout alone gives the layout
+  -- Old_Layout alone gives the layout: Full_Layout is absent
   old-layout : ℤ → Layout → Example
-  -- Full_Layout gives the layout
+  -- Full_Layout decides alone, whatever Old_Layout is
   full-layout : ℕ → Layout → Example
   -- line and character join at the overlap into the rows
   joining : Layout → Rows → Rows → ℕ → Rows → Example
@@ -65,8 +67,8 @@ data Example : Type 0 where
   pairing : Layout → ℕ → ℕ → Joint → Example
 
 Holds : Example → Type 0
-Holds (old-layout z y) = oldLayout z ≡ y
-Holds (full-layout v y) = fullLayout v ≡ y
+Holds (old-layout z y) = layoutOf z Absent ≡ y
+Holds (full-layout v y) = (old : ℤ) → layoutOf old (Of v) ≡ y
 Holds (joining y line character o result) =
     let h = length line in
     let room = length (text result) in
@@ -115,9 +117,9 @@ examples-hold = (
   (
     refl,
     (
-      refl,
+      λ old. refl,
       (
-        refl,
+        λ old. refl,
         (
           (refl, refl),
           (

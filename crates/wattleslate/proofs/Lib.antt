@@ -5,3 +5,5 @@ pub mod RowLaws
 pub mod MapCases
 pub mod DrawCases
 pub mod ToldApart
+pub mod Wiping
+pub mod Promises
