@@ -7,6 +7,7 @@ use mathlib.Core.Logic.{_↔_}
 use Prim.Native.Nat.{ℕ, _+_, _-_, _≤_}
 use native.Mathlib.Omega.{arith}
 use lib.ListN.{length, take, drop}
+use denote.Ref.{RefT, ptr}
 use Rattle.ground.specs.declared.refusals.Refusal.{Refusal}
 use Rattle.ground.specs.Refusals.{refusal, tooManyCharacters, badShape}
 use Rattle.ground.proofs.Tests.{clash}
@@ -20,7 +21,7 @@ use Rattle.request.specs.Request.{rowRequest}
 use Rattle.request.proofs.RowLaws.{used-stands}
 use Rattle.request.proofs.RequestLaws.{Given, row-fits, row-only, row-if, BadRequest, refused-17, refused-font, refused-some}
 use Rattle.wattleslate.specs.declared.RowRefusal.the-variants.{NotRefused, Refused}
-use Rattle.wattleslate.specs.RowCall.{RowTold, partOf, rowBytes, rowTells, requestTold, rowTold}
+use Rattle.wattleslate.specs.RowCall.{RowTold, partOf, rowBytes, LiesAt, rowTells, requestTold, rowTold}
 use Rattle.wattleslate.proofs.ToldApart.{row-apart}
 
 -- The answers to a request.
@@ -32,6 +33,14 @@ module _ (s : List ℕ) (c : Code) (r : ℕ) (x : Requested) (p : x ≡ rowReque
   pub part-by-request : partOf s x ≡ rowBytes s c r
   unfolding rowBytes
   part-by-request = ap (partOf s) p
+
+-- The part lies where the request says, and a refused request says nothing.
+module _ (s : List ℕ) (c : Code) (r : ℕ) (font part : RefT (List ℕ)) where
+  pub lies-there : (p w : ℕ) → requested-is.Row p w ≡ rowRequest s c r → ptr part .0 ≡ ptr font .0 → ptr part .1 ≡ p + ptr font .1 → LiesAt font (rowRequest s c r) part
+  lies-there p w e m o = record { there = λ q v f. let g : requested-is.Row p w ≡ requested-is.Row q v = e ∙ f in let k : p ≡ q = cc in (m, o ∙ ap (λ (j : ℕ). j + ptr font .1) k) }
+
+  pub lies-nowhere : (q : Refusal) → requested-is.Refused q ≡ rowRequest s c r → LiesAt font (rowRequest s c r) part
+  lies-nowhere q e = record { there = λ p w f. let g : requested-is.Refused q ≡ requested-is.Row p w = e ∙ f in clash (cc) }
 
 -- The part from a place to the place behind its width.
 pub row-part : (s : List ℕ) (c : Code) (r p w : ℕ) → requested-is.Row p w ≡ rowRequest s c r → take (p + w - p) (drop p s) ≡ rowBytes s c r

@@ -27,9 +27,10 @@ ghost use mathlib.Core.Path.{_≡_};
 ghost use lib.ListN.{length};
 ghost use Rattle.ground.specs.Area.{zeros};
 ghost use Rattle.join.specs.JoinCall.{JoinGives};
+ghost use Rattle.request.specs.Request.{rowRequest};
 ghost use Rattle.flc.specs.Lists.{lists};
 ghost use Rattle.wattleslate.specs.LookUpCall.{lookUpTells, lookUpTold};
-ghost use Rattle.wattleslate.specs.RowCall.{rowTells, rowTold, rowBytes};
+ghost use Rattle.wattleslate.specs.RowCall.{rowTells, rowTold, rowBytes, LiesAt};
 ghost use Rattle.wattleslate.specs.ControlCall.{ControlRead};
 ghost use Rattle.wattleslate.specs.MapCall.{mapTells, mapTold};
 ghost use Rattle.wattleslate.specs.DrawCall.{drawTells, drawTold, drawOutput};
@@ -67,6 +68,7 @@ pub fn look_up(font: &[u8], code: Code) -> LookUpAnswer
 // A row of the character that is used for a code, as a part of the font: its bytes as they stand there. A refused row is empty.
 pub fn row<'a>(font: &'a [u8], code: Code, row: usize) -> &'a [u8]
     ensures part { λ r. ⌜ now r ≡ rowBytes (now (font .entry)) code row ⌝ }
+    ensures place { λ r. ⌜ LiesAt (font .entry) (rowRequest (now (font .entry)) code row) r ⌝ }
 {
     match request::request(font, code, row) {
         Requested::Row { place, width } => {
