@@ -1,20 +1,17 @@
--- What holds of a font's characters: how many there are, that each has its rows, and which numbers stop them.
+-- What holds of a font's characters: how many there are, and that each has its rows.
 -- Assumes nothing.
 use mathlib.Core.Path.{_≡_, refl}
 use mathlib.Core.List.{List, [], _∷_}
 use Prim.Native.Nat.{ℕ, zero, suc, _+_, _≤_, _<_}
 use native.Mathlib.Omega.{arith}
 use lib.ListN.{length, drop}
-use Rattle.ground.specs.Refusals.{refusal, missingLine, tooManyCharacters}
-use Rattle.ground.specs.declared.refusals.Refusal.{Refusal}
+use Rattle.ground.specs.Refusals.{refusal, missingLine}
 use Rattle.ground.specs.Limits.{maxCharacters}
 use Rattle.subchars.specs.declared.Code.{Code}
 use Rattle.lines.specs.Lines.{TextLine}
-use Rattle.lines.proofs.StartLaws.{Starting, start-first, start-rest, start-dropped}
 use Rattle.rows.specs.declared.Format.{Format}
 use Rattle.rows.specs.Rows.{Rows, read, refused, characterRows, lineCount}
 use Rattle.rows.proofs.RowLaws.{AllRead, character-read}
-use Rattle.rows.proofs.RefusalLaws.{refused-numbers, refused-place}
 use Rattle.chars.specs.declared.Entry.{Entry}
 use Rattle.chars.specs.Chars.{Ending, finished, stopped, Listing, ends, listed, characterThen, listing}
 use Rattle.chars.proofs.Induction.{listing-all}
@@ -59,23 +56,3 @@ listing-sound f size cs n ls h =
     listing-all f size (SoundListing f) (λ m ks i. nothing f m ks finished i) (λ m l ks k i a b. nothing f m (l ∷ ks) (stopped (refusal k (l .start))) i)
     (λ m l ks x s. record { few = s .few; rows = each-further f l ks (x .entries) (s .rows) })
     (λ m c ks more i s. character-sound f size m c ks more i (record { few = s .few; rows = each-dropped f (lineCount f) ks (more .entries) (s .rows) })) cs n ls h
-
--- Characters are stopped by 5 to 8, and by nothing else, at a place within the font or at its end.
-pub data StopsInside (size : ℕ) : Ending → Type 0 where
-  end : StopsInside size finished
-  by : (r : Refusal) → missingLine ≤ r .number → r .number ≤ tooManyCharacters → r .place ≤ size → StopsInside size (stopped r)
-
-character-stops : (f : Format) (size : ℕ) (c : Code) (ls : List TextLine) (more : Listing) → Starting size ls → StopsInside size (more .ending) → StopsInside size (characterThen f size c ls more .ending)
-character-stops f size c [] more t s = by (refusal missingLine size) (omega arith) (omega arith) (omega arith)
-character-stops f size c (l ∷ ls) more t s = go (characterRows f size (l ∷ ls)) refl
-  where
-    go : (v : Rows) → characterRows f size (l ∷ ls) ≡ v → StopsInside size (listed v c (l .start) more .ending)
-    go (read w) e = s
-    go (refused r) e = let n = refused-numbers f size (l ∷ ls) r e in by r (n .0) (omega (arith, n .1)) (refused-place f size (l ∷ ls) r t e)
-
-pub listing-stops : (f : Format) (size : ℕ) (cs : List ℕ) (n : ℕ) (ls : List TextLine) → n + length cs ≤ maxCharacters → Starting size ls → StopsInside size (listing f size cs n ls .ending)
-listing-stops f size cs n ls h =
-    listing-all f size (λ m ks x. Starting size ks → StopsInside size (x .ending)) (λ m ks i t. end)
-    (λ m l ks k i a b t. by (refusal k (l .start)) (omega arith) b (start-first size l ks t))
-    (λ m l ks x s t. s (start-rest size l ks t))
-    (λ m c ks more i s t. character-stops f size c ks more t (s (start-dropped size (lineCount f) ks t))) cs n ls h

@@ -30,7 +30,7 @@ use Rattle.chars.specs.Steps.{listedThen, listedAt, tagThen, tagAt, blan
 use Rattle.chars.proofs.CodeLaws.{still-required, none-required}
 use Rattle.chars.proofs.BlankLaws.{blank-from}
 
-tag-skip : (f : Format) (size k n : ℕ) (ls : List TextLine) → taggedFrom f size k n ls ≡ taggedFrom f size 0 n (drop k ls)
+pub tag-skip : (f : Format) (size k n : ℕ) (ls : List TextLine) → taggedFrom f size k n ls ≡ taggedFrom f size 0 n (drop k ls)
 unfolding taggedFrom
 tag-skip f size zero n ls = refl
 tag-skip f size (suc k) n [] = refl

@@ -9,7 +9,7 @@ use native.Mathlib.Omega.{arith}
 use lib.IntN.{ℤ}
 use lib.ListN.{length, drop}
 use Rattle.ground.specs.Runs.{begins}
-use Rattle.ground.specs.Refusals.{noSignature, badHardblank, badParameters}
+use Rattle.ground.specs.Refusals.{refusal, noSignature, badHardblank, badParameters}
 use Rattle.ground.specs.declared.refusals.Refusal.{Refusal}
 use Rattle.ground.proofs.Tests.{clash}
 use Rattle.subchars.specs.declared.SubCharacter.{SubCharacter}
@@ -158,6 +158,36 @@ module _ (t : List ℕ) where
       only : (b : Bool) → begins fontSignature t ≡ b → readHeader t ≡ refused badParameters → (begins fontSignature t ≡ true) × Followed (drop (length fontSignature) t)
       only true e q = (e, by-parameters (drop (length fontSignature) t) _ _ behind (sym (with-signature e) ∙ q) refl)
       only false e q = absurd (omega (arith, unsigned _ e q))
+
+  -- The refusals of a header line, in their order: each at place 0.
+  pub data HeaderStops : Refusal → Type 0 where
+    -- 2: "first line does not begin with flf2a"
+    signature : begins fontSignature t ≡ false → HeaderStops (refusal noSignature 0)
+    -- 3: "hardblank absent, or blank, CR, LF, NUL"
+    hardblank : begins fontSignature t ≡ true → BadHardblank (drop (length fontSignature) t) → HeaderStops (refusal badHardblank 0)
+    -- 4: "no blank or tab after the hardblank, under five numbers, or a value out of range"
+    numbers : begins fontSignature t ≡ true → Followed (drop (length fontSignature) t) → HeaderStops (refusal badParameters 0)
+
+  signed-stops : begins fontSignature t ≡ true → (x : HeaderStep) (r : Refusal) → Signed (drop (length fontSignature) t) x → x ≡ Refused r → HeaderStops r
+  signed-stops s x r (unblank b e) q = let p : refusal badHardblank 0 ≡ r = cc in subst HeaderStops p (hardblank s b)
+  signed-stops s x r (blank h rest e b (fine y g k)) q = clash (cc)
+  signed-stops s x r (blank h rest e b (bad p g)) q = let d : refusal badParameters 0 ≡ r = cc in subst HeaderStops d (numbers s (h, rest, e, b, p))
+
+  -- a header line is refused exactly so
+  pub header-exactly : (r : Refusal) → readHeader t ≡ Refused r ↔ HeaderStops r
+  header-exactly r = (λ q. only (begins fontSignature t) refl q, is r)
+    where
+      only : (b : Bool) → begins fontSignature t ≡ b → readHeader t ≡ Refused r → HeaderStops r
+      only true e q = signed-stops e (afterSignature (drop (length fontSignature) t)) r behind (sym (with-signature e) ∙ q)
+      only false e q =
+          let k : refused noSignature ≡ Refused r = sym (without-signature e) ∙ q in
+          let p : refusal noSignature 0 ≡ r = cc in
+          subst HeaderStops p (signature e)
+
+      is : (r : Refusal) → HeaderStops r → readHeader t ≡ Refused r
+      is _ (signature e) = refused-2 .1 e
+      is _ (hardblank e b) = refused-3 .1 (e, b)
+      is _ (numbers e p) = refused-4 .1 (e, p)
 
   -- a header is refused with no other number, and always at place 0
   pub record HeaderRefusal (r : Refusal) : Type 0 where
