@@ -2,7 +2,7 @@
 -- definitions that the contracts of the public calls cite. A statement stands here in full; its proof is one line that cites the law, so that what
 -- lies behind need not be opened.
 -- Assumes nothing.
-use mathlib.Core.Path.{_≡_}
+use mathlib.Core.Path.{_≡_, ap}
 use mathlib.Core.Bool.{Bool, true, false}
 use mathlib.Core.List.{List, [], _∷_, _++_, map}
 use mathlib.Core.Logic.{_⊎_, _↔_}
@@ -26,7 +26,8 @@ use Rattle.subchars.specs.declared.Smushing.{Smushing as Kind}
 use Rattle.subchars.specs.declared.Smushing.the-variants.{Controlled}
 use Rattle.subchars.specs.declared.Mode.{Mode}
 use Rattle.subchars.specs.declared.Rule.{Rule}
-use Rattle.subchars.specs.Pair.{blank, joins, byRule, EveryRuleOf}
+use Rattle.subchars.specs.declared.Joint.the-variants.{ByRule}
+use Rattle.subchars.specs.Pair.{blank, joins, inSet, byRule, controlled, EveryRuleOf}
 use Rattle.subchars.proofs.Rules as rules
 use Rattle.subchars.proofs.Joints as joints
 use Rattle.lanes.specs.Overlap.{hasBlank, free}
@@ -44,12 +45,18 @@ use Rattle.join.specs.Writing.{Like}
 use Rattle.lines.specs.Lines.{linesFrom, after, textAt}
 use Rattle.header.specs.declared.Header.{Header}
 use Rattle.chars.specs.declared.Entry.{Entry}
-use Rattle.chars.specs.Codes.{code}
+use Rattle.chars.specs.Codes.{code, requiredCodes, requiredCount}
 use Rattle.rows.specs.Rows.{row}
-use Rattle.chars.proofs.OrderLaws.{InOrder}
+use Rattle.chars.proofs.OrderLaws.{InOrder, Coded}
+use Rattle.index.specs.declared.Found.{Found}
+use Rattle.index.specs.declared.Found.the-variants.{At, Nowhere}
+use Rattle.index.specs.LookUp.{lastAt, orStandIn, lookUp}
+use Rattle.index.proofs.FindLaws as looking
+use Rattle.index.proofs.FindLaws.{Last}
 use Rattle.font.specs.Font.{says, refuses, format, reading}
 use Rattle.font.proofs.ReadingLaws as fonts
-use Rattle.font.proofs.ReadingLaws.{HeaderBad}
+use Rattle.font.proofs.RefusalLaws as fonts-refused
+use Rattle.font.proofs.RefusalLaws.{FontStops}
 use Rattle.entries.specs.Filling.{fontReading, zeroEntry, indexOf}
 use Rattle.entries.proofs.RefusalLaws as index
 use Rattle.flc.specs.declared.Command.{Command}
@@ -96,14 +103,10 @@ draw-wiped = wiping.draw-wiped
 -- ================================================================ demand 2: the refusal table
 
 module _ (s : List ℕ) where
-  -- 1: "font too long", at 0.
-  refusal-1 : (p : ℕ) → reading s ≡ refuses (refusal fontTooLong p) ↔ ((p ≡ 0) × (maxFontLength < length s))
-  refusal-1 = fonts.refused-1 s
-
-  -- 2, 3, 4: "first line does not begin with flf2a"; "hardblank absent, or blank, CR, LF, NUL"; "no blank or tab after the hardblank, under five numbers, or a
-  -- value out of range": the refusal of the first line of a font that is not too long.
-  refusals-2-to-4 : (r : Refusal) → noSignature ≤ r .number → r .number ≤ badParameters → reading s ≡ refuses r ↔ ((length s ≤ maxFontLength) × HeaderBad r (linesFrom s 0))
-  refusals-2-to-4 = fonts.refused-header s
+  -- 1 to 8: `FontStops` names each with what it is given for and its place, in the table's order: 1; of the first line 2, 3, 4; then 5 to 8 at the line where they
+  -- are met, comment lines that run out included; on one tag line 7 before 8. A font is refused exactly so.
+  refusals-1-to-8 : (r : Refusal) → reading s ≡ refuses r ↔ FontStops s r
+  refusals-1-to-8 = fonts-refused.font-exactly s
 
   -- A font has no refusal but 1 to 8, and none names a place beyond its end.
   font-refusals : (r : Refusal) → reading s ≡ refuses r → (fontTooLong ≤ r .number) × (r .number ≤ tooManyCharacters) × (r .place ≤ length s) × (r .place ≤ maxFontLength)
@@ -168,6 +171,23 @@ module _ (s : List ℕ) (c : Code) (r : ℕ) where
 characters-in-file-order : (s : List ℕ) (h : Header) (es : List Entry) → reading s ≡ says h es → InOrder (format h) (drop (suc (h .«comment_lines»)) (linesFrom s 0)) es
 characters-in-file-order = fonts.font-ordered
 
+-- "Codes 32 to 126, then 196, 214, 220, 228, 246, 252, 223; then tagged characters": the first 102 characters have the required codes in order,
+first-characters-required : (s : List ℕ) (h : Header) (es : List Entry) → reading s ≡ says h es → map (λ (e : Entry). e .code) (take requiredCount es) ≡ map (λ (c : ℕ). code (pos c)) requiredCodes
+first-characters-required = fonts.font-required
+
+-- and each of the others stands behind the tag line that names its code.
+other-characters-tagged : (s : List ℕ) (h : Header) (es : List Entry) → reading s ≡ says h es → Coded (format h) requiredCodes (drop (suc (h .«comment_lines»)) (linesFrom s 0)) es
+other-characters-tagged = fonts.font-coded
+
+-- "When codes repeat, the last is used.
+last-of-repeated-codes : (z : ℤ) (codes : List ℤ) (k : ℕ) → lastAt z codes ≡ At k → Last z codes k
+last-of-repeated-codes = looking.at-last
+
+-- Otherwise the character with code 0 stands in; if there is none, nothing is drawn."
+code-0-stands-in : (c : Code) (codes : List ℤ) → lastAt (c .0) codes ≡ Nowhere → lookUp c codes ≡ lastAt (pos 0) codes
+unfolding lookUp
+code-0-stands-in c codes e = ap (λ (f : Found). orStandIn f (lastAt (pos 0) codes)) e
+
 -- "Within a stage the first command that fits acts, once."
 first-command-acts : (before : List Command) (c : Command) (bs : List Command) (z : Code) → NoneFits z before → fits c z ≡ true → throughStage (before ++ (c ∷ bs)) z ≡ newCode c z
 first-command-acts = mapping.first-acts
@@ -178,6 +198,10 @@ no-command-fits = mapping.passes-through
 -- "No pair is joined by two rules."
 no-pair-by-two-rules : (h l r : ℕ) (p q : Rule) (x z : ℕ) → byRule p h l r ≡ some x → byRule q h l r ≡ some z → p ≡ q
 no-pair-by-two-rules = rules.one-rule
+
+-- "Its rule in the set": a rule of the set that joins a pair without a blank gives its byte.
+rule-of-the-set-joins : (set h l r : ℕ) (rule : Rule) (x : ℕ) → inSet set rule ≡ true → byRule rule h l r ≡ some x → controlled set h l r ≡ ByRule rule (record { 0 = x })
+rule-of-the-set-joins = rules.controlled-by
 
 -- "Universal joins every pair."
 universal-joins-every-pair : (direction : Direction) (hardblank : SubCharacter) (l r : ℕ) → joins (joints.universally direction hardblank) l r ≡ true
