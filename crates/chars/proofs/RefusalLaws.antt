@@ -123,28 +123,28 @@ module _ (f : Format) (s : List ℕ) (at n : ℕ) where
           ap (λ (j : ℕ). Stopped (refusal badCodeTag j)) (sym (w .2))
 
   -- 8: "a 513th character", at the "start of its tag line", which is good
-  pub record TooMany : Type 0 where
+  pub record TooManyCharacters : Type 0 where
     pub due : TagDue
     pub tag : Code
     pub good : tagOf (textAt s at) ≡ Tag tag
     pub many : maxCharacters ≤ n
 
-  pub refused-8 : (p : ℕ) → nextAt f s at n ≡ Stopped (refusal tooManyCharacters p) ↔ (TooMany × (p ≡ at))
+  pub refused-8 : (p : ℕ) → nextAt f s at n ≡ Stopped (refusal tooManyCharacters p) ↔ (TooManyCharacters × (p ≡ at))
   refused-8 p = (λ e. to (refusal tooManyCharacters p) e refl, from)
     where
       room : (r : Refusal) → r .number ≡ tooManyCharacters → TagDue → (c : Code) → tagOf (textAt s at) ≡ Tag c → (b : Bool) → ltb n maxCharacters ≡ b →
-          cond b (listedAt f s (nextStart s at) c) (Stopped (refusal tooManyCharacters at)) ≡ Stopped r → TooMany × (r .place ≡ at)
+          cond b (listedAt f s (nextStart s at) c) (Stopped (refusal tooManyCharacters at)) ≡ Stopped r → TooManyCharacters × (r .place ≡ at)
       room r m d c q true b e = absurd (omega (arith, listed-number f s (nextStart s at) c r e))
       room r m d c q false b e = (record { due = d; tag = c; good = q; many = ltb-false n maxCharacters b }, cc)
 
-      by : (r : Refusal) → r .number ≡ tooManyCharacters → TagDue → (t : TagStep) → tagOf (textAt s at) ≡ t → taggedThen (tagThen t (cursor (nextStart s at))) f s at n ≡ Stopped r → TooMany × (r .place ≡ at)
+      by : (r : Refusal) → r .number ≡ tooManyCharacters → TagDue → (t : TagStep) → tagOf (textAt s at) ≡ t → taggedThen (tagThen t (cursor (nextStart s at))) f s at n ≡ Stopped r → TooManyCharacters × (r .place ≡ at)
       by r m d BadTag q e = let k : r .number ≡ badCodeTag = cc in absurd (omega arith)
       by r m d (Tag c) q e = room r m d c q (ltb n maxCharacters) refl e
 
-      to : (r : Refusal) → nextAt f s at n ≡ Stopped r → r .number ≡ tooManyCharacters → TooMany × (r .place ≡ at)
+      to : (r : Refusal) → nextAt f s at n ≡ Stopped r → r .number ≡ tooManyCharacters → TooManyCharacters × (r .place ≡ at)
       to r e m = let d = only-due r e (omega arith) in by r m d (tagOf (textAt s at)) refl (sym (due-is d) ∙ e)
 
-      from : TooMany × (p ≡ at) → nextAt f s at n ≡ Stopped (refusal tooManyCharacters p)
+      from : TooManyCharacters × (p ≡ at) → nextAt f s at n ≡ Stopped (refusal tooManyCharacters p)
       from w =
           due-is (w .0 .due) ∙ ap (λ (t : TagStep). taggedThen (tagThen t (cursor (nextStart s at))) f s at n) (w .0 .good) ∙
           simp (le-ltb n maxCharacters (w .0 .many)) (ap (λ (j : ℕ). Stopped (refusal tooManyCharacters j)) (sym (w .1)))
