@@ -11,12 +11,12 @@ use Rattle.ground.specs.Refusals.{refusal, areaTooSmall, controlFileTooLong}
 use Rattle.ground.specs.declared.refusals.Refusal.{Refusal}
 use Rattle.ground.proofs.Lent.{too-small, has-room, lent-9, lent-other}
 use Rattle.flc.specs.Control.{refuses, control}
-use Rattle.flc.specs.Lists.{CommandLists, lists, roomOf, controlReading}
+use Rattle.flc.specs.Lists.{CommandLists, commandLists, roomOf, controlReading}
 use Rattle.flc.specs.Filling.{CommandRoom}
 use Rattle.flc.proofs.RefusalLaws.{control-refusal}
 
 -- Each list has the room of the shortest.
-pub each-roomy : (ss : List ℕ) (fs ls ns : List ℤ) → maxCommands ≤ roomOf (lists ss fs ls ns) → CommandRoom maxCommands ss fs ls ns
+pub each-roomy : (ss : List ℕ) (fs ls ns : List ℤ) → maxCommands ≤ roomOf (commandLists ss fs ls ns) → CommandRoom maxCommands ss fs ls ns
 each-roomy ss fs ls ns h = record { for-stages = omega arith; for-firsts = omega arith; for-lasts = omega arith; for-news = omega arith }
 
 module _ (lent : CommandLists) (s : List ℕ) where

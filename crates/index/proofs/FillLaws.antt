@@ -56,7 +56,7 @@ abbrev before : List Entry → Listing → Listing
 before es x = record { entries = es ++ x .entries; ending = x .ending }
 
 -- The loop's invariant: n characters are in the index, and the others are to come from `at` on.
-pub record Held (f : Format) (s : List ℕ) (from : ℕ) (codes₀ : List ℤ) (starts₀ widths₀ : List ℕ) (codes : List ℤ) (starts widths : List ℕ) (at n : ℕ) : Type 0 where
+pub record CharactersHeld (f : Format) (s : List ℕ) (from : ℕ) (codes₀ : List ℤ) (starts₀ widths₀ : List ℕ) (codes : List ℤ) (starts widths : List ℕ) (at n : ℕ) : Type 0 where
   pub few : n ≤ maxCharacters
   pub long-codes : length codes ≡ length codes₀
   pub long-starts : length starts ≡ length starts₀
@@ -69,7 +69,7 @@ pub record Held (f : Format) (s : List ℕ) (from : ℕ) (codes₀ : List ℤ) (
   pub widths-are : take n widths ≡ map widthOf done
 
 module _ (f : Format) (s : List ℕ) (from : ℕ) (codes₀ : List ℤ) (starts₀ widths₀ : List ℕ) where
-  pub held-none : Held f s from codes₀ starts₀ widths₀ codes₀ starts₀ widths₀ from 0
+  pub held-none : CharactersHeld f s from codes₀ starts₀ widths₀ codes₀ starts₀ widths₀ from 0
   held-none =
       record {
         few = omega arith;
@@ -84,7 +84,7 @@ module _ (f : Format) (s : List ℕ) (from : ℕ) (codes₀ : List ℤ) (starts�
         widths-are = refl;
       }
 
-  module _ (big : CharacterRoom maxCharacters codes₀ starts₀ widths₀) (codes : List ℤ) (starts widths : List ℕ) (at n : ℕ) (h : Held f s from codes₀ starts₀ widths₀ codes starts widths at n) where
+  module _ (big : CharacterRoom maxCharacters codes₀ starts₀ widths₀) (codes : List ℤ) (starts widths : List ℕ) (at n : ℕ) (h : CharactersHeld f s from codes₀ starts₀ widths₀ codes starts widths at n) where
     step-whole : (e : Entry) (next : Cursor) → Listed e next ≡ nextAt f s at n → listingAt f s from ≡ before (h .done ++ (e ∷ [])) (rest f s (n + 1) (next .at))
     step-whole e next p =
         h .whole ∙ ap (before (h .done)) (rest-step f s n at ∙ sym (ap (following f s n) p)) ∙
@@ -92,7 +92,7 @@ module _ (f : Format) (s : List ℕ) (from : ℕ) (codes₀ : List ℤ) (starts�
         ap (λ (j : ℕ). before (h .done ++ (e ∷ [])) (rest f s j (next .at))) (sym (add-one n))
 
     pub held-more : (e : Entry) (next : Cursor) → Listed e next ≡ nextAt f s at n →
-        Held f s from codes₀ starts₀ widths₀ (set codes n (codeOf e)) (set starts n (startOf e)) (set widths n (widthOf e)) (next .at) (n + 1)
+        CharactersHeld f s from codes₀ starts₀ widths₀ (set codes n (codeOf e)) (set starts n (startOf e)) (set widths n (widthOf e)) (next .at) (n + 1)
     held-more e next p =
         let r = listed-room f s at n e next p in
         record {

@@ -11,7 +11,7 @@ use Rattle.flc.specs.declared.Command.{Command}
 use Rattle.flc.specs.declared.ControlAnswer.{ControlAnswer}
 use Rattle.flc.specs.declared.ControlAnswer.the-variants.{Read, Refused}
 use Rattle.flc.specs.Control.{ControlReading, control}
-use Rattle.flc.specs.Lists.{lists}
+use Rattle.flc.specs.Lists.{commandLists}
 use Rattle.flc.proofs.HeldLaws.{told, mapped, usable as held-usable}
 use Rattle.flc.specs.Passing.{ControlHeld, Usable, passAll, passing, ControlHeldBy}
 use Rattle.flc.specs.Filling.{HoldsCommands, CommandsListed}
@@ -19,7 +19,7 @@ use Rattle.wattleslate.specs.declared.MapAnswer.the-variants as Map
 use Rattle.wattleslate.specs.MapCall.{mapTells, mappedBy, mapTold}
 
 -- A code, by a file that was read into lists.
-module _ (s : List ℕ) (b : Bytes s) (r : ControlAnswer) (ss : List ℕ) (fs ls ns : List ℤ) (ss₀ : List ℕ) (fs₀ ls₀ ns₀ : List ℤ) (l : CommandsListed (control s) r (lists ss₀ fs₀ ls₀ ns₀) (lists ss fs ls ns)) where
+module _ (s : List ℕ) (b : Bytes s) (r : ControlAnswer) (ss : List ℕ) (fs ls ns : List ℤ) (ss₀ : List ℕ) (fs₀ ls₀ ns₀ : List ℤ) (l : CommandsListed (control s) r (commandLists ss₀ fs₀ ls₀ ns₀) (commandLists ss fs ls ns)) where
   told-as : (a : ControlAnswer) → r ≡ a → ControlHeldBy s a ss fs ls ns
   told-as a e = subst (λ (x : ControlAnswer). ControlHeldBy s x ss fs ls ns) e (told s b r ss fs ls ns ss₀ fs₀ ls₀ ns₀ l)
 

@@ -61,7 +61,7 @@ use Rattle.entries.specs.Filling.{fontReading, zeroEntry, indexOf}
 use Rattle.entries.proofs.RefusalLaws as index
 use Rattle.flc.specs.declared.Command.{Command}
 use Rattle.flc.specs.Control as flc
-use Rattle.flc.specs.Lists.{CommandLists, lists, listsOf, roomOf, controlReading}
+use Rattle.flc.specs.Lists.{CommandLists, commandLists, listsOf, roomOf, controlReading}
 use Rattle.flc.specs.Mapping.{fits, newCode, throughStage, mapStages}
 use Rattle.flc.proofs.LentLaws as lent-lists
 use Rattle.flc.proofs.RefusalLaws as controls
@@ -89,7 +89,7 @@ index-wiped = wiping.index-wiped
 
 -- the lists of read_control,
 lists-wiped : (lent : CommandLists) (s : List ℕ) (r : Refusal) → controlReading lent s ≡ flc.refuses r →
-    listsOf (controlReading lent s) lent ≡ lists (zeros (length (lent .stages))) (replicate (length (lent .firsts)) (pos 0)) (replicate (length (lent .lasts)) (pos 0)) (replicate (length (lent .news)) (pos 0))
+    listsOf (controlReading lent s) lent ≡ commandLists (zeros (length (lent .stages))) (replicate (length (lent .firsts)) (pos 0)) (replicate (length (lent .lasts)) (pos 0)) (replicate (length (lent .news)) (pos 0))
 lists-wiped = wiping.lists-wiped
 
 -- the area of join,

@@ -18,7 +18,7 @@ use Rattle.figure.specs.Line.{shown, outputOf, drawnOnly, outputBytes}
 use Rattle.font.specs.Font.{FontReading, refuses}
 use Rattle.entries.specs.Filling.{fontReading, zeroEntry, indexOf}
 use Rattle.flc.specs.Control as flc
-use Rattle.flc.specs.Lists.{CommandLists, lists, listsOf, controlReading}
+use Rattle.flc.specs.Lists.{CommandLists, commandLists, listsOf, controlReading}
 use Rattle.drawing.specs.Drawing.{Lined, lined, unlined, drawLined, linedAnswer, bytesOf}
 use Rattle.wattleslate.specs.DrawCall.{drawTells, drawTold, drawOutput}
 
@@ -31,7 +31,7 @@ unfolding indexOf
 index-wiped room s r e = ap (λ (m : FontReading). indexOf m room) e ∙ ap (λ (n : ℕ). replicate n zeroEntry) (less-none room)
 
 pub lists-wiped : (lent : CommandLists) (s : List ℕ) (r : Refusal) → controlReading lent s ≡ flc.refuses r →
-    listsOf (controlReading lent s) lent ≡ lists (zeros (length (lent .stages))) (replicate (length (lent .firsts)) (pos 0)) (replicate (length (lent .lasts)) (pos 0)) (replicate (length (lent .news)) (pos 0))
+    listsOf (controlReading lent s) lent ≡ commandLists (zeros (length (lent .stages))) (replicate (length (lent .firsts)) (pos 0)) (replicate (length (lent .lasts)) (pos 0)) (replicate (length (lent .news)) (pos 0))
 lists-wiped lent s r e =
     ap (λ (x : flc.ControlReading). listsOf x lent) e ∙
     rw (less-none (length (lent .stages)), less-none (length (lent .firsts)), less-none (length (lent .lasts)), less-none (length (lent .news))) refl

@@ -28,7 +28,7 @@ ghost use lib.ListN.{length};
 ghost use Rattle.ground.specs.Area.{zeros};
 ghost use Rattle.join.specs.JoinCall.{JoinGives};
 ghost use Rattle.request.specs.Request.{rowRequest};
-ghost use Rattle.flc.specs.Lists.{lists};
+ghost use Rattle.flc.specs.Lists.{commandLists};
 ghost use Rattle.wattleslate.specs.LookUpCall.{lookUpTells, lookUpTold};
 ghost use Rattle.wattleslate.specs.RowCall.{rowTells, rowTold, rowBytes, LiesAt};
 ghost use Rattle.wattleslate.specs.ControlCall.{ControlRead};
@@ -98,7 +98,7 @@ pub fn read_control(
     lasts: &mut [i32],
     news: &mut [i32],
 ) -> ControlAnswer
-    ensures { λ r. ⌜ ControlRead (now (control .entry)) (lists (now (stages .entry)) (now (firsts .entry)) (now (lasts .entry)) (now (news .entry))) r (lists (now (stages .exit)) (now (firsts .exit)) (now (lasts .exit)) (now (news .exit))) ⌝ }
+    ensures { λ r. ⌜ ControlRead (now (control .entry)) (commandLists (now (stages .entry)) (now (firsts .entry)) (now (lasts .entry)) (now (news .entry))) r (commandLists (now (stages .exit)) (now (firsts .exit)) (now (lasts .exit)) (now (news .exit))) ⌝ }
 {
     flc::read_lent(control, stages, firsts, lasts, news)
 }

@@ -3,7 +3,7 @@
 use mathlib.Core.Path.{_≡_, sym}
 use native.Mathlib.Omega.{arith}
 use borrow.Author.Needs.{needs}
-use Rattle.flc.specs.Lists.{CommandLists, lists, roomOf}
+use Rattle.flc.specs.Lists.{CommandLists, commandLists, roomOf}
 use Rattle.flc.proofs.ListLaws.{listed-as}
 use Rattle.flc.proofs.LentLaws.{each-roomy, roomy-is, small-is}
 use Rattle.flc.proofs.read_lent.Statement.{statement}
@@ -11,7 +11,7 @@ use Rattle.flc.proofs.read_lent.Tie as tie
 
 -- the lent lists, and their room as the code finds it
 abbrev lent : tie.Start → CommandLists
-lent p = lists (p .args .stages .now) (p .args .firsts .now) (p .args .lasts .now) (p .args .news .now)
+lent p = commandLists (p .args .stages .now) (p .args .firsts .now) (p .args .lasts .now) (p .args .news .now)
 
 room-is : (p : tie.After-smaller3) → p .smaller3 .result ≡ roomOf (lent (p .before .before .before .before .before))
 room-is p = omega (arith, p .smaller3 .ensures, p .before .smaller2 .ensures, p .before .before .smaller .ensures)

@@ -10,12 +10,12 @@ use lib.ListN.{set}
 use mir.Syntax.{w32}
 use mir.Val.{toZ, ofZ}
 use Rattle.ground.specs.Limits.{maxCharacters}
-use Rattle.index.proofs.FillLaws.{listed-room, Held, held-none, held-more, held-done, held-failed}
+use Rattle.index.proofs.FillLaws.{listed-room, CharactersHeld, held-none, held-more, held-done, held-failed}
 use Rattle.index.proofs.fill.Statement.{statement}
 use Rattle.index.proofs.fill.Tie as tie
 
 abbrev Inv-loop : tie.InvT-loop
-Inv-loop f s codes₀ starts₀ widths₀ c₀ n₀ codes starts widths c n = Held f s (c₀ .at) codes₀ starts₀ widths₀ codes starts widths (c .at) n
+Inv-loop f s codes₀ starts₀ widths₀ c₀ n₀ codes starts widths c n = CharactersHeld f s (c₀ .at) codes₀ starts₀ widths₀ codes starts widths (c .at) n
 
 abbrev μ-loop : tie.MeasureT-loop
 μ-loop f s codes₀ starts₀ widths₀ c₀ n₀ codes starts widths c n = maxCharacters - n
@@ -64,7 +64,7 @@ loop-again c =
     let next = c .before .before .before .entry .given .0 .1 .0 in
     let z : toZ w32 (ofZ w32 (e .code .0)) ≡ e .code .0 = search needs in
     let h = held-more (a .f) (a .s .now) (a .from .at) (a .codes .now) (a .starts .now) (a .widths .now) (c .before .before .before .before .before .before .before .before .before .before .pre) (l .codes) (l .starts) (l .widths) (l .cursor .at) (l .n) (l .inv) e next (sym (c .before .before .before .entry .given .1) ∙ c .before .before .before .before .before .next-char .ensures) in
-    subst (λ (y : ℤ). Held (a .f) (a .s .now) (a .from .at) (a .codes .now) (a .starts .now) (a .widths .now) (set (l .codes) (l .n) y) (set (l .starts) (l .n) (e .start)) (set (l .widths) (l .n) (e .width)) (next .at) (l .n + 1)) (sym z) h
+    subst (λ (y : ℤ). CharactersHeld (a .f) (a .s .now) (a .from .at) (a .codes .now) (a .starts .now) (a .widths .now) (set (l .codes) (l .n) y) (set (l .starts) (l .n) (e .start)) (set (l .widths) (l .n) (e .width)) (next .at) (l .n + 1)) (sym z) h
 
 enum-told : tie.Need-enum-told Inv-loop μ-loop
 enum-told c = search needs
