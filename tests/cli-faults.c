@@ -1,5 +1,5 @@
-/* Faults of the system under the command, for tests/cli: linked with --wrap for open, read, write and close. Every second call is interrupted, and no
- * read or write moves more than seven bytes. FAIL_READ=N lets the Nth read fail; FAIL_CLOSE=N lets the closing of standard output fail with error N. */
+/* Faults of the system under the command, for tests/cli: linked with --wrap for open, read, write and close. Every second call is interrupted, and
+ * reads and writes move one to seven bytes. FAIL_READ=N lets the Nth read fail; FAIL_CLOSE=N lets the closing of standard output fail with error N. */
 #include <errno.h>
 #include <stdlib.h>
 #include <unistd.h>
@@ -25,6 +25,13 @@ static int interrupted(void) {
     return calls++ % 2 == 0;
 }
 
+/* Another number of bytes at each call. */
+static size_t some(size_t length) {
+    static size_t calls = 0;
+    size_t most = 1 + calls++ * 3 % 7;
+    return length < most ? length : most;
+}
+
 int __wrap_open(const char *path, int flags) {
     return interrupted() ? -1 : __real_open(path, flags);
 }
@@ -38,11 +45,11 @@ ssize_t __wrap_read(int fd, void *area, size_t room) {
         errno = EIO;
         return -1;
     }
-    return __real_read(fd, area, room < 7 ? room : 7);
+    return __real_read(fd, area, some(room));
 }
 
 ssize_t __wrap_write(int fd, const void *bytes, size_t length) {
-    return interrupted() ? -1 : __real_write(fd, bytes, length < 7 ? length : 7);
+    return interrupted() ? -1 : __real_write(fd, bytes, some(length));
 }
 
 int __wrap_close(int fd) {
