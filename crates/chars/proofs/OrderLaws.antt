@@ -109,3 +109,29 @@ module _ (f : Format) (size : ℕ) where
 pub coded-first : (f : Format) (cs : List ℕ) (ls : List TextLine) (es : List Entry) → Coded f cs ls es → map (λ (e : Entry). e .code) (take (length cs) es) ≡ map (λ (c : ℕ). code (pos c)) cs
 coded-first f (c ∷ cs) (l ∷ ls) (e ∷ es) (required a b r s) = ap (λ (x : Code). x ∷ map (λ (e : Entry). e .code) (take (length cs) es)) a ∙ ap (λ (xs : List Code). code (pos c) ∷ xs) (coded-first f cs (drop (lineCount f) (l ∷ ls)) es s)
 coded-first f [] ls es s = refl
+
+-- A character whose rows stand right behind a tag line that names its code.
+pub data Tagged (e : Entry) : List TextLine → Type 0 where
+  behind : {t l : TextLine} {ls : List TextLine} → tagOf (t .text) ≡ Tag (e .code) → e .start ≡ l .start → Tagged e (t ∷ l ∷ ls)
+  beyond : {l : TextLine} {ls : List TextLine} → Tagged e ls → Tagged e (l ∷ ls)
+
+pub data EachTagged (ls : List TextLine) : List Entry → Type 0 where
+  no-more : EachTagged ls []
+  one-more : {e : Entry} {es : List Entry} → Tagged e ls → EachTagged ls es → EachTagged ls (e ∷ es)
+
+tagged-beyond : (l : TextLine) (ls : List TextLine) (es : List Entry) → EachTagged ls es → EachTagged (l ∷ ls) es
+tagged-beyond l ls [] no-more = no-more
+tagged-beyond l ls (e ∷ es) (one-more t s) = one-more (beyond t) (tagged-beyond l ls es s)
+
+tagged-dropped : (k : ℕ) (ls : List TextLine) (es : List Entry) → EachTagged (drop k ls) es → EachTagged ls es
+tagged-dropped zero ls es h = h
+tagged-dropped (suc k) [] es h = h
+tagged-dropped (suc k) (l ∷ ls) es h = tagged-beyond l ls es (tagged-dropped k ls es h)
+
+-- The codes of the others are those of their tags.
+pub coded-others : (f : Format) (cs : List ℕ) (ls : List TextLine) (es : List Entry) → Coded f cs ls es → EachTagged ls (drop (length cs) es)
+coded-others f (c ∷ cs) (l ∷ ls) (e ∷ es) (required a b r s) =
+    tagged-dropped (lineCount f) (l ∷ ls) (drop (length cs) es) (coded-others f cs (drop (lineCount f) (l ∷ ls)) es s)
+coded-others f [] (t ∷ l ∷ ls) (e ∷ es) (tag p b r s) =
+    one-more (behind {t = t} {l = l} p b) (tagged-beyond t (l ∷ ls) es (tagged-dropped (lineCount f) (l ∷ ls) es (coded-others f [] (drop (lineCount f) (l ∷ ls)) es s)))
+coded-others f [] ls [] (end b) = no-more

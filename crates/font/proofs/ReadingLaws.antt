@@ -25,8 +25,8 @@ use Rattle.chars.specs.Codes.{code, requiredCodes, requiredCount}
 use Rattle.chars.specs.Chars.{Ending, finished, stopped, Listing, listing}
 use Rattle.chars.proofs.CodeLaws.{codes-length}
 use Rattle.chars.proofs.EntryLaws.{EachStands, each-further, each-dropped, listing-sound}
-use Rattle.chars.proofs.OrderLaws.{InOrder, listing-ordered, Coded, listing-coded, coded-first}
-use Rattle.font.specs.Font.{FontReading, says, refuses, format, readingOf, withCharacters, afterHeader, onLines, reading}
+use Rattle.chars.proofs.OrderLaws.{InOrder, listing-ordered, Coded, listing-coded, coded-first, EachTagged, coded-others}
+use Rattle.font.specs.Font.{says, refuses, format, readingOf, withCharacters, afterHeader, onLines, reading}
 use Rattle.font.proofs.RefusalLaws.{short-is, long-is, deciding, font-exactly, font-inside}
 
 -- A font that is read has a first line with its header, and on the lines behind it the characters.
@@ -108,3 +108,9 @@ module _ (s : List ℕ) where
   pub font-required : (h : Header) (es : List Entry) → reading s ≡ says h es → map (λ (e : Entry). e .code) (take requiredCount es) ≡ map (λ (c : ℕ). code (pos c)) requiredCodes
   font-required h es e =
       ap (λ (k : ℕ). map (λ (x : Entry). x .code) (take k es)) (sym codes-length) ∙ coded-first (format h) requiredCodes (drop (suc (h .«comment_lines»)) (linesFrom s 0)) es (font-coded h es e)
+
+  -- the others have the codes of their tags
+  pub font-tagged : (h : Header) (es : List Entry) → reading s ≡ says h es → EachTagged (drop (suc (h .«comment_lines»)) (linesFrom s 0)) (drop requiredCount es)
+  font-tagged h es e =
+      subst (λ (k : ℕ). EachTagged (drop (suc (h .«comment_lines»)) (linesFrom s 0)) (drop k es)) codes-length
+      (coded-others (format h) requiredCodes (drop (suc (h .«comment_lines»)) (linesFrom s 0)) es (font-coded h es e))

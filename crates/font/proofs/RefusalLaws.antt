@@ -24,7 +24,7 @@ use Rattle.chars.specs.declared.Entry.{Entry}
 use Rattle.chars.specs.Codes.{requiredCodes}
 use Rattle.chars.specs.Chars.{Ending, finished, stopped, Listing, listing}
 use Rattle.chars.proofs.RefusalLaws.{CharactersStop, characters-exactly, characters-inside}
-use Rattle.font.specs.Font.{FontReading, refuses, format, readingOf, withCharacters, afterHeader, onLines, reading}
+use Rattle.font.specs.Font.{refuses, format, readingOf, withCharacters, afterHeader, onLines, reading}
 
 -- "2, 3, 4, then 5 to 8 as met line by line": the refusals of a font's lines.
 pub data LinesStop (size : ℕ) : List TextLine → Refusal → Type 0 where

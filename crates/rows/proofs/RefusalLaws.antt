@@ -1,6 +1,6 @@
 -- A character's rows are refused exactly at the first line that is missing, with 5, or bad, with 6.
 -- Assumes nothing.
-use mathlib.Core.Path.{_≡_, refl, sym, ap, _∙_, subst}
+use mathlib.Core.Path.{_≡_, refl, ap, _∙_, subst}
 use mathlib.Core.Bool.{Bool, true, false, cond}
 use mathlib.Core.List.{List, [], _∷_}
 use mathlib.Core.Logic.{_↔_}
@@ -15,7 +15,7 @@ use Rattle.lines.proofs.StartLaws.{Starting, start-first, start-rest}
 use Rattle.rows.specs.declared.Format.{Format}
 use Rattle.rows.specs.declared.RowStep.{RowStep}
 use Rattle.rows.specs.declared.RowStep.the-variants.{Width, BadRow}
-use Rattle.rows.specs.Rows.{rowOf, Rows, refused, hasWidth, rowsOn, otherRows, characterRows}
+use Rattle.rows.specs.Rows.{rowOf, refused, hasWidth, rowsOn, otherRows, characterRows}
 use Rattle.rows.proofs.LineLaws.{BadLine, bad-exactly, BadRowLine, has-width, width-exactly}
 
 -- Where k rows of width w are due behind a character's first: the line at which they are refused.

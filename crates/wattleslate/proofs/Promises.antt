@@ -65,7 +65,7 @@ use Rattle.flc.specs.Lists.{CommandLists, commandLists, listsOf, roomOf, contro
 use Rattle.flc.specs.Mapping.{fits, newCode, throughStage, mapStages}
 use Rattle.flc.proofs.LentLaws as lent-lists
 use Rattle.flc.proofs.RefusalLaws as controls
-use Rattle.flc.proofs.RefusalLaws.{Stops}
+use Rattle.flc.proofs.RefusalLaws.{ControlStops}
 use Rattle.flc.proofs.MappingLaws as mapping
 use Rattle.flc.proofs.MappingLaws.{NoneFits}
 use Rattle.source.specs.Source.{Source}
@@ -126,13 +126,10 @@ module _ (s : List ℕ) where
   control-refusals-of-read-control : (lent : CommandLists) (r : Refusal) → controlFileTooLong ≤ r .number → controlReading lent s ≡ flc.refuses r ↔ ((maxCommands ≤ roomOf lent) × (flc.control s ≡ flc.refuses r))
   control-refusals-of-read-control lent = lent-lists.refused-file lent s
 
-  -- 10: "control file too long", at 0.
-  refusal-10 : (p : ℕ) → flc.control s ≡ flc.refuses (refusal controlFileTooLong p) ↔ ((p ≡ 0) × (maxControlFile < length s))
-  refusal-10 = controls.refused-10 s
-
-  -- 11 to 14 "as met": the refusal of the first line that has one, at its start.
-  refusals-11-to-14 : (r : Refusal) → notACommand ≤ r .number → flc.control s ≡ flc.refuses r ↔ ((length s ≤ maxControlFile) × Stops r 0 0 (flc.behindSignature (linesFrom s 0)))
-  refusals-11-to-14 = controls.refused-lines s
+  -- 10 to 14: `ControlStops` names each with what it is given for and its place: 10; then 11 to 14 at the first line that is refused, at its start. A control file is
+  -- refused exactly so.
+  refusals-10-to-14 : (r : Refusal) → flc.control s ≡ flc.refuses r ↔ ControlStops s r
+  refusals-10-to-14 = controls.control-exactly s
 
 -- 9, the font's, the control file's, 15, 16, 9 of draw, and its success: the answer is one of those that `DrawsTo` names, and what it names for an answer gives it.
 draw-answers : (size : ℕ) (s control text : List ℕ) (room : ℕ) → DrawsTo size s control text room (drawing.answer size s control text room)
