@@ -7,6 +7,7 @@ use ground::refusals;
 use ground::refusals::Refusal;
 use header::Given;
 use header::Header;
+use index::latest;
 use reader::FontAnswer;
 use source::Chosen;
 use subchars::Code;
@@ -21,6 +22,7 @@ ghost use Rattle.ground.specs.Area.{zeros};
 ghost use Rattle.ground.specs.Limits.{maxLineWidth, maxHeight, maxCharacters, maxCommands, minScratch};
 ghost use Rattle.chars.specs.Codes.{code};
 ghost use Rattle.index.specs.Index.{CharacterRoom};
+ghost use Rattle.index.specs.Latest.{smallCodes};
 ghost use Rattle.join.specs.Join.{Block};
 ghost use Rattle.join.specs.Writing.{RowAfterRow};
 ghost use Rattle.figure.specs.Scratch.{scratchLine};
@@ -321,7 +323,7 @@ pub fn read_files(
     news: &mut [i32],
 ) -> Files
     requires { ⌜ CharacterRoom maxCharacters (now codes) (now starts) (now widths) ⌝ }
-    requires { ⌜ length (now places) ≡ 256 ⌝ }
+    requires { ⌜ length (now places) ≡ smallCodes ⌝ }
     requires { ⌜ CommandRoom maxCommands (now stages) (now firsts) (now lasts) (now news) ⌝ }
     ensures { λ r. ⌜ FilesHeld (now (font .entry)) (now (control .entry)) r (now (codes .exit)) (now (starts .exit)) (now (widths .exit)) (now (places .exit)) (now (stages .exit)) (now (firsts .exit)) (now (lasts .exit)) (now (news .exit)) ⌝ }
 {
@@ -344,7 +346,7 @@ fn draw_once(
     let mut codes = [0i32; limits::MAX_CHARACTERS];
     let mut starts = [0usize; limits::MAX_CHARACTERS];
     let mut widths = [0usize; limits::MAX_CHARACTERS];
-    let mut places = [0usize; 256];
+    let mut places = [0usize; latest::SMALL_CODES];
     let mut stages = [0usize; limits::MAX_COMMANDS];
     let mut firsts = [0i32; limits::MAX_COMMANDS];
     let mut lasts = [0i32; limits::MAX_COMMANDS];

@@ -12,6 +12,7 @@ ghost use lib.ListN.{length};
 ghost use Rattle.ground.specs.Limits.{maxHeight, maxCharacters};
 ghost use Rattle.lines.specs.Lines.{lineEnd, nextStart, after};
 ghost use Rattle.index.specs.Index.{CharacterRoom};
+ghost use Rattle.index.specs.Latest.{smallCodes};
 ghost use Rattle.source.specs.Source.{Source};
 ghost use Rattle.source.specs.Held.{FontHeldBy, Gives};
 ghost use Rattle.source.specs.Steps.{Standing, RowPlaces, ChosenAs};
@@ -105,7 +106,7 @@ pub fn read_font(
     places: &mut [usize],
 ) -> FontAnswer
     requires { ⌜ CharacterRoom maxCharacters (now codes) (now starts) (now widths) ⌝ }
-    requires { ⌜ length (now places) ≡ 256 ⌝ }
+    requires { ⌜ length (now places) ≡ smallCodes ⌝ }
     ensures { λ r. ⌜ FontHeldBy (now (font .entry)) r (now (codes .exit)) (now (starts .exit)) (now (widths .exit)) (now (places .exit)) ⌝ }
 {
     match reader::read_lists(font, codes, starts, widths) {
