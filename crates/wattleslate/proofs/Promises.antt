@@ -47,7 +47,7 @@ use Rattle.header.specs.declared.Header.{Header}
 use Rattle.chars.specs.declared.Entry.{Entry}
 use Rattle.chars.specs.Codes.{code, requiredCodes, requiredCount}
 use Rattle.rows.specs.Rows.{row}
-use Rattle.chars.proofs.OrderLaws.{InOrder, Coded}
+use Rattle.chars.proofs.OrderLaws.{InOrder, EachTagged}
 use Rattle.index.specs.declared.Found.{Found}
 use Rattle.index.specs.declared.Found.the-variants.{At, Nowhere}
 use Rattle.index.specs.LookUp.{lastAt, orStandIn, lookUp}
@@ -172,9 +172,9 @@ characters-in-file-order = fonts.font-ordered
 first-characters-required : (s : List ℕ) (h : Header) (es : List Entry) → reading s ≡ says h es → map (λ (e : Entry). e .code) (take requiredCount es) ≡ map (λ (c : ℕ). code (pos c)) requiredCodes
 first-characters-required = fonts.font-required
 
--- and each of the others stands behind the tag line that names its code.
-other-characters-tagged : (s : List ℕ) (h : Header) (es : List Entry) → reading s ≡ says h es → Coded (format h) requiredCodes (drop (suc (h .«comment_lines»)) (linesFrom s 0)) es
-other-characters-tagged = fonts.font-coded
+-- and each of the others stands right behind a tag line that names its code.
+other-characters-tagged : (s : List ℕ) (h : Header) (es : List Entry) → reading s ≡ says h es → EachTagged (drop (suc (h .«comment_lines»)) (linesFrom s 0)) (drop requiredCount es)
+other-characters-tagged = fonts.font-tagged
 
 -- "When codes repeat, the last is used.
 last-of-repeated-codes : (z : ℤ) (codes : List ℤ) (k : ℕ) → lastAt z codes ≡ At k → Last z codes k
