@@ -4,8 +4,14 @@
  * behind it are those of an area of that many bytes, a pointer is not NULL even where the length is 0, and an area that is lent for writing lies in no
  * other one that the same call is given. No call allocates, keeps a pointer, or uses anything outside of its arguments.
  *
- * The answer: 0 in the upper 32 bits and a value below, or a refusal's number in the upper 32 bits and its place below. After a refusal every area
- * that was lent for writing is all zeros.
+ * The answer has the refusal's number in its upper 16 bits, 0 if it is not refused. Below it stands the refusal's place, 48 bits, or up to three values of 16 bits:
+ * a * 2^32 + b * 2^16 + c. The functions at the end take an answer apart. After a refusal every area that was lent for writing is all zeros.
+ *
+ *     Call                        a   b         c
+ *     wattleslate_check_font      0   height    characters
+ *     wattleslate_check_control   0   stages    commands
+ *     wattleslate_draw            0   0         width
+ *     wattleslate_join            0   overlap   width
  */
 #ifndef WATTLESLATE_H
 #define WATTLESLATE_H
@@ -68,61 +74,67 @@ enum wattleslate_refusal {
 #define WATTLESLATE_LEFT_TO_RIGHT 0u
 #define WATTLESLATE_RIGHT_TO_LEFT 1u
 
-/* Reads a font. Refusals 1 to 8. Value: wattleslate_height and wattleslate_characters. */
+/* Reads a font. Refusals 1 to 8. Values: wattleslate_height and wattleslate_characters. */
 uint64_t wattleslate_check_font(const uint8_t *font, size_t font_len);
 
-/* Reads a control file. Refusals 10 to 14. Value: wattleslate_stages and wattleslate_commands. */
+/* Reads a control file. Refusals 10 to 14. Values: wattleslate_stages and wattleslate_commands. */
 uint64_t wattleslate_check_control(const uint8_t *file, size_t file_len);
 
 /* Draws a line of text by a font and a control file, which may be empty. `out` then holds the rows, each with an LF, and zeros behind them; `scratch` is all
- * zeros. Refusals: 9 for a scratch under WATTLESLATE_SCRATCH bytes, 1 to 8, 10 to 14, 15, 16, then 9 for `out`. Value: the width. */
+ * zeros. Refusals: 9 for a scratch under WATTLESLATE_SCRATCH bytes, 1 to 8, 10 to 14, 15, 16, then 9 for `out`. Value: wattleslate_width. */
 uint64_t wattleslate_draw(const uint8_t *font, size_t font_len, const uint8_t *control, size_t control_len, const uint8_t *text,
                           size_t text_len, uint8_t *scratch, size_t scratch_len, uint8_t *out, size_t out_len);
 
-/* Puts a FIGcharacter to a line of equal height: to its right from left to right, otherwise to its left. A block's rows lie one after another; `out` then holds
+/* Joins a FIGcharacter to a line of equal height, at its right when writing left to right, otherwise at its left. A block's rows lie one after another; `out` then holds
  * the result's, and zeros behind them. Refusals: 17 (height outside 1 to 32, line wider than 1,000, character wider than 199, a
  * block that is not height times width long, a hardblank that is blank, CR, LF or NUL, a layout over 32,767, a direction other than 0
- * and 1), 16, then 9. Value: wattleslate_overlap and wattleslate_width. */
+ * and 1), 16, then 9. Values: wattleslate_overlap and wattleslate_width. */
 uint64_t wattleslate_join(const uint8_t *line, size_t line_len, size_t line_width, const uint8_t *character, size_t character_len,
                           size_t character_width, size_t height, uint8_t hardblank, size_t layout, size_t direction, uint8_t *out,
                           size_t out_len);
 
+/* The bits of a place, and those of a value. */
+#define WATTLESLATE_PLACE_BITS 48
+#define WATTLESLATE_VALUE_BITS 16
+
 /* An answer's refusal number, 0 for a success. */
 static inline enum wattleslate_refusal wattleslate_number(uint64_t answer) {
-    return (enum wattleslate_refusal)(answer >> 32);
+    return (enum wattleslate_refusal)(answer >> WATTLESLATE_PLACE_BITS);
 }
 
-/* A refusal's place. */
-static inline uint32_t wattleslate_place(uint64_t answer) {
-    return (uint32_t)answer;
+/* Where refused: the refusal's place. */
+static inline uint64_t wattleslate_place(uint64_t answer) {
+    return answer & (((uint64_t)1 << WATTLESLATE_PLACE_BITS) - 1);
 }
 
 /* Of wattleslate_draw and wattleslate_join, where not refused: the width of the drawing or of the result. */
 static inline uint32_t wattleslate_width(uint64_t answer) {
-    return (uint32_t)(answer & 0xFFFFu);
+    return (uint16_t)answer;
 }
 
-/* Of wattleslate_join, where not refused. */
+/* Of wattleslate_join, where not refused: how many columns of both blocks lie on one another. */
 static inline uint32_t wattleslate_overlap(uint64_t answer) {
-    return (uint32_t)(answer >> 16 & 0xFFFFu);
+    return (uint16_t)(answer >> WATTLESLATE_VALUE_BITS);
 }
 
-/* Of wattleslate_check_font, where not refused: the height of the font, and how many characters it has. */
+/* Of wattleslate_check_font, where not refused: the height of the font. */
 static inline uint32_t wattleslate_height(uint64_t answer) {
-    return (uint32_t)(answer >> 16 & 0xFFFFu);
+    return (uint16_t)(answer >> WATTLESLATE_VALUE_BITS);
 }
 
+/* Of wattleslate_check_font, where not refused: how many characters the font has. */
 static inline uint32_t wattleslate_characters(uint64_t answer) {
-    return (uint32_t)(answer & 0xFFFFu);
+    return (uint16_t)answer;
 }
 
-/* Of wattleslate_check_control, where not refused. */
+/* Of wattleslate_check_control, where not refused: how many stages the control file has. */
 static inline uint32_t wattleslate_stages(uint64_t answer) {
-    return (uint32_t)(answer >> 16 & 0xFFFFu);
+    return (uint16_t)(answer >> WATTLESLATE_VALUE_BITS);
 }
 
+/* Of wattleslate_check_control, where not refused: how many mapping commands the control file has. */
 static inline uint32_t wattleslate_commands(uint64_t answer) {
-    return (uint32_t)(answer & 0xFFFFu);
+    return (uint16_t)answer;
 }
 
 #ifdef __cplusplus

@@ -1,5 +1,6 @@
 /* A login prompt that shows the device's name in big letters first, as a supplicant would: login FONT NAME. */
 #include "wattleslate.h"
+#include <inttypes.h>
 #include <stdio.h>
 #include <string.h>
 
@@ -23,7 +24,7 @@ static void banner(const char *path, const char *name) {
     size_t length = load(path);
     uint64_t answer = wattleslate_draw(font, length, (const uint8_t *)"", 0, (const uint8_t *)name, strlen(name), scratch, sizeof scratch, out, sizeof out);
     if (wattleslate_number(answer) != WATTLESLATE_NOT_REFUSED) {
-        printf("%s (banner refused %d at %u)\n", name, (int)wattleslate_number(answer), wattleslate_place(answer));
+        printf("%s (banner refused %d at %" PRIu64 ")\n", name, (int)wattleslate_number(answer), wattleslate_place(answer));
         return;
     }
     uint32_t height = wattleslate_height(wattleslate_check_font(font, length));

@@ -10,11 +10,11 @@ use Rattle.subchars.specs.declared.Direction.{Direction}
 use Rattle.subchars.specs.declared.Layout.{Layout}
 use Rattle.subchars.specs.declared.Mode.{Mode}
 use Rattle.subchars.specs.Layouts.{fullLayout, printDirection}
-use Rattle.wattleslate.specs.JoinCall.{JoinTold, refusing, joinTold, joinArea}
-use Rattle.capi.specs.Numbers.{legal, modeBy, joinTaken, joinLeft}
+use Rattle.join.specs.JoinCall.{JoinTold, refusing, joinTold, joinArea}
+use Rattle.capi.specs.Numbers.{legalMode, modeBy, joinTaken, joinLeft}
 
 module _ (layout direction hardblank h n : ℕ) (line : List ℕ) (m : ℕ) (character : List ℕ) (room : ℕ) where
-  module _ (e : legal layout direction ≡ false) where
+  module _ (e : legalMode layout direction ≡ false) where
     pub illegal-told : refusing badShape ≡ joinTaken layout direction hardblank h n line m character room
     unfolding joinTaken
     illegal-told = rw e
@@ -23,7 +23,7 @@ module _ (layout direction hardblank h n : ℕ) (line : List ℕ) (m : ℕ) (cha
     unfolding joinLeft
     illegal-area = rw e
 
-  module _ (e : legal layout direction ≡ true) (y : Layout) (d : Direction) (p : y ≡ fullLayout layout) (q : d ≡ printDirection direction) where
+  module _ (e : legalMode layout direction ≡ true) (y : Layout) (d : Direction) (p : y ≡ fullLayout layout) (q : d ≡ printDirection direction) where
     abbrev mode : Layout → Direction → Mode
     mode a b = record { layout = a; direction = b; hardblank = record { 0 = hardblank } }
 

@@ -13,48 +13,59 @@ use Rattle.reader.specs.declared.FontAnswer.{FontAnswer}
 use Rattle.reader.specs.declared.FontAnswer.the-variants.{Read, Refused}
 use Rattle.wattleslate.specs.ControlCall.{ControlTold}
 use Rattle.wattleslate.specs.DrawCall.{DrawTold}
-use Rattle.wattleslate.specs.JoinCall.{JoinTold, refusing, joinTold, joinArea}
+use Rattle.join.specs.JoinCall.{JoinTold, refusing, joinTold, joinArea}
 
--- "A refusal answers its number and place": the number above 32 bits for the place. A success has 0 there, and its value below.
-abbrev pub packed : ℕ → ℕ → ℕ
-packed number low = number * 4294967296 + low
+-- A value is below this, as is a refusal's number: 16 bits.
+abbrev pub valueBound : ℕ
+valueBound = 65536
 
--- A refusal's number is one of the table; a place or a value has 32 bits.
-pub record Packs (number low : ℕ) : Type 0 where
-  pub of-table : number ≤ 17
-  pub in-32 : low < 4294967296
+-- A place is below this: 48 bits, those of three values.
+abbrev pub placeBound : ℕ
+placeBound = valueBound * valueBound * valueBound
 
--- Two values, each in 16 bits.
-abbrev pub paired : ℕ → ℕ → ℕ
-paired high low = high * 65536 + low
+-- "A refusal answers its number and place": the number in the upper 16 bits, and the place below it.
+abbrev pub refusedAt : ℕ → ℕ → ℕ
+refusedAt number place = number * placeBound + place
 
-pub record Pairs (high low : ℕ) : Type 0 where
-  pub high-in-16 : high < 65536
-  pub low-in-16 : low < 65536
+-- Not refused: 0 in the upper 16 bits, and three values below it, which is a * 2^32 + b * 2^16 + c. A value that a call does not give is 0.
+abbrev pub threeValues : ℕ → ℕ → ℕ → ℕ
+threeValues a b c = (a * valueBound + b) * valueBound + c
 
+-- Each part has room in its bits, and no refusal's number is 0.
+pub record RefusalFits (number place : ℕ) : Type 0 where
+  pub not-0 : 1 ≤ number
+  pub number-in-16 : number < valueBound
+  pub place-in-48 : place < placeBound
+
+pub record ValuesFit (a b c : ℕ) : Type 0 where
+  pub a-in-16 : a < valueBound
+  pub b-in-16 : b < valueBound
+  pub c-in-16 : c < valueBound
+
+-- What an answer tells, as one number.
 abbrev pub telling : Bool → ℕ → ℕ → ℕ → ℕ
-telling refused number place value = cond refused (packed number place) (packed 0 value)
+telling refused number place values = cond refused (refusedAt number place) values
 
 -- The check of a font: its Height, and how many characters it has.
 abbrev pub fontNumber : FontAnswer → ℕ
-fontNumber (Read h n) = packed 0 (paired (h .height) n)
-fontNumber (Refused r) = packed (r .number) (r .place)
+fontNumber (Read h n) = threeValues 0 (h .height) n
+fontNumber (Refused r) = refusedAt (r .number) (r .place)
 
 -- The check of a control file: the counts of stages and of commands.
 abbrev pub controlNumber : ControlTold → ℕ
-controlNumber t = telling (t .refused) (t .number) (t .place) (paired (t .stages) (t .commands))
+controlNumber t = telling (t .refused) (t .number) (t .place) (threeValues 0 (t .stages) (t .commands))
 
 -- "The answer gives the width."
 abbrev pub drawNumber : DrawTold → ℕ
-drawNumber t = telling (t .refused) (t .number) (t .place) (t .width)
+drawNumber t = telling (t .refused) (t .number) (t .place) (threeValues 0 0 (t .width))
 
 -- "It answers the overlap and the result width."
 abbrev pub joinNumber : JoinTold → ℕ
-joinNumber t = telling (t .refused) (t .number) (t .place) (paired (t .overlap) (t .width))
+joinNumber t = telling (t .refused) (t .number) (t .place) (threeValues 0 (t .overlap) (t .width))
 
 -- "Full_Layout 0 to 32,767, Print_Direction 0 or 1." Other numbers are a join of bad shape.
-abbrev pub legal : ℕ → ℕ → Bool
-legal layout direction = leb layout maxFullLayout && leb direction maxDirection
+abbrev pub legalMode : ℕ → ℕ → Bool
+legalMode layout direction = leb layout maxFullLayout && leb direction maxDirection
 
 -- "Where Full_Layout stands, it decides alone."
 abbrev pub modeBy : ℕ → ℕ → ℕ → Mode
@@ -63,9 +74,9 @@ modeBy layout direction hardblank = record { layout = fullLayout layout; directi
 -- "Join: 17, 16, 9."
 unfoldable pub joinTaken : ℕ → ℕ → ℕ → ℕ → ℕ → List ℕ → ℕ → List ℕ → ℕ → JoinTold
 joinTaken layout direction hardblank h n line m character room =
-    cond (legal layout direction) (joinTold (modeBy layout direction hardblank) h n line m character room) (refusing badShape)
+    cond (legalMode layout direction) (joinTold (modeBy layout direction hardblank) h n line m character room) (refusing badShape)
 
 -- "A refusal fills every lent writable area with zeros."
 unfoldable pub joinLeft : ℕ → ℕ → ℕ → ℕ → ℕ → List ℕ → ℕ → List ℕ → ℕ → List ℕ
 joinLeft layout direction hardblank h n line m character room =
-    cond (legal layout direction) (joinArea (modeBy layout direction hardblank) h n line m character room) (zeros room)
+    cond (legalMode layout direction) (joinArea (modeBy layout direction hardblank) h n line m character room) (zeros room)

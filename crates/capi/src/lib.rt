@@ -15,31 +15,37 @@ ghost use Rattle.ground.specs.Area.{zeros};
 ghost use Rattle.ground.specs.declared.refusals.Refusal.{Refusal};
 ghost use Rattle.font.specs.Font.{reading};
 ghost use Rattle.flc.specs.Control.{control};
-ghost use Rattle.reader.specs.Reader.{answerOf};
+ghost use Rattle.reader.specs.Reader.{fontAnswer};
 ghost use Rattle.wattleslate.specs.ControlCall.{controlTold};
 ghost use Rattle.wattleslate.specs.DrawCall.{drawTold, drawOutput};
-ghost use Rattle.capi.specs.Numbers.{packed, Packs, paired, Pairs, fontNumber, controlNumber, drawNumber, joinNumber, joinTaken, joinLeft};
+ghost use Rattle.capi.specs.Numbers.{refusedAt, RefusalFits, threeValues, ValuesFit, fontNumber, controlNumber, drawNumber, joinNumber, joinTaken, joinLeft};
 
-// A refusal's number above a place, or 0 above a value.
-fn packed(number: usize, low: usize) -> u64
-    requires { ⌜ Packs number low ⌝ }
-    ensures { λ r. ⌜ r ≡ packed number low ⌝ }
+// A value is below this, as is a refusal's number: 16 bits.
+const VALUE_BOUND: u64 = 65536;
+
+// A place is below this: 48 bits, those of three values.
+const PLACE_BOUND: u64 = VALUE_BOUND * VALUE_BOUND * VALUE_BOUND;
+
+// A refusal's number above its place.
+fn refused_at(number: usize, place: usize) -> u64
+    requires { ⌜ RefusalFits number place ⌝ }
+    ensures { λ r. ⌜ r ≡ refusedAt number place ⌝ }
 {
-    number as u64 * 4294967296 + low as u64
+    number as u64 * PLACE_BOUND + place as u64
 }
 
-// Two values in one.
-fn paired(high: usize, low: usize) -> usize
-    requires { ⌜ Pairs high low ⌝ }
-    ensures { λ r. ⌜ r ≡ paired high low ⌝ }
+// Three values in the place's bits.
+fn three_values(a: usize, b: usize, c: usize) -> u64
+    requires { ⌜ ValuesFit a b c ⌝ }
+    ensures { λ r. ⌜ r ≡ threeValues a b c ⌝ }
 {
-    high * 65536 + low
+    (a as u64 * VALUE_BOUND + b as u64) * VALUE_BOUND + c as u64
 }
 
 // Reads a font, and answers its height and how many characters it has. Refusals 1 to 8.
 #[no_mangle]
 pub extern "C" fn wattleslate_check_font(font: &[u8]) -> u64
-    ensures answer { λ r. ⌜ r ≡ fontNumber (answerOf (reading (now (font .entry)))) ⌝ }
+    ensures answer { λ r. ⌜ r ≡ fontNumber (fontAnswer (reading (now (font .entry)))) ⌝ }
 {
     let mut codes = [0i32; limits::MAX_CHARACTERS];
     let mut starts = [0usize; limits::MAX_CHARACTERS];
@@ -47,9 +53,9 @@ pub extern "C" fn wattleslate_check_font(font: &[u8]) -> u64
     match reader::read_lists(font, &mut codes, &mut starts, &mut widths) {
         FontAnswer::Read { header, count } => {
             let height = header.height;
-            packed(0, paired(height, count))
+            three_values(0, height, count)
         }
-        FontAnswer::Refused(r) => packed(r.number, r.place),
+        FontAnswer::Refused(r) => refused_at(r.number, r.place),
     }
 }
 
@@ -66,8 +72,8 @@ pub extern "C" fn wattleslate_check_control(file: &[u8]) -> u64
         ControlAnswer::Read {
             commands,
             stages: k,
-        } => packed(0, paired(k, commands)),
-        ControlAnswer::Refused(r) => packed(r.number, r.place),
+        } => three_values(0, k, commands),
+        ControlAnswer::Refused(r) => refused_at(r.number, r.place),
     }
 }
 
@@ -85,8 +91,8 @@ pub extern "C" fn wattleslate_draw(
     ensures scratch { λ r. ⌜ now (scratch .exit) ≡ zeros (length (now (scratch .entry))) ⌝ }
 {
     match wattleslate::draw(font, control, text, scratch, out) {
-        DrawAnswer::Drawn(width) => packed(0, width),
-        DrawAnswer::Refused(r) => packed(r.number, r.place),
+        DrawAnswer::Drawn(width) => three_values(0, 0, width),
+        DrawAnswer::Refused(r) => refused_at(r.number, r.place),
     }
 }
 
@@ -112,7 +118,7 @@ pub extern "C" fn wattleslate_join(
         direction <= limits::MAX_DIRECTION,
     ) {
         ground::zero_from(out, 0);
-        return packed(refusals::BAD_SHAPE, 0);
+        return refused_at(refusals::BAD_SHAPE, 0);
     }
     match wattleslate::join(
         line,
@@ -125,7 +131,7 @@ pub extern "C" fn wattleslate_join(
         Direction::from_print(direction),
         out,
     ) {
-        JoinAnswer::Joined { overlap, width } => packed(0, paired(overlap, width)),
-        JoinAnswer::Refused(r) => packed(r.number, r.place),
+        JoinAnswer::Joined { overlap, width } => three_values(0, overlap, width),
+        JoinAnswer::Refused(r) => refused_at(r.number, r.place),
     }
 }

@@ -6,25 +6,13 @@ use mathlib.Core.List.{List, [], _∷_}
 use Prim.Native.Nat.{ℕ, suc, _+_, _≤_, _<_}
 use lib.ListN.{length, drop, getD}
 use Rattle.ground.specs.Runs.{all}
-use Rattle.ground.proofs.Tests.{and-right}
+use Rattle.ground.proofs.Tests.{and-right, and-assoc, or-true, or-false}
 use Rattle.ground.proofs.Runs.{all-more, all-not, all-end}
 use Rattle.ground.specs.Text.{isLF}
 use Rattle.lines.specs.Lines.{isCR, isEnd, TextLine, line, grown, linesAfter, linesFrom}
 use Rattle.lines.specs.Words.{isBlank}
 use Rattle.chars.specs.Chars.{blankLines}
 use Rattle.chars.specs.Steps.{isSpace, blankFrom}
-
-and-assoc : (a b c : Bool) → (a && b && c) ≡ (a && (b && c))
-and-assoc true b c = refl
-and-assoc false b c = refl
-
-or-true : (a : Bool) → (a || true) ≡ true
-or-true true = refl
-or-true false = refl
-
-or-false : (a : Bool) → (a || false) ≡ a
-or-false true = refl
-or-false false = refl
 
 grown-blank : (i x : ℕ) (ls : List TextLine) → blankLines (grown i x ls) ≡ (isBlank x && blankLines ls)
 unfolding blankLines all

@@ -20,7 +20,7 @@ use Rattle.lines.specs.Numbers.{codeNumber}
 use Rattle.lines.specs.declared.numbers.CodeNumber.{CodeNumber}
 use Rattle.lines.specs.declared.numbers.CodeNumber.the-variants.{Named, NotCode}
 use Rattle.chars.specs.declared.TagStep.the-variants.{Tag, BadTag}
-use Rattle.chars.specs.Codes.{count, german, requiredCodes, requiredCount, sameNumber, sameCode, noCode, tagCode, tagOf}
+use Rattle.chars.specs.Codes.{count, asciiCount, ascii, deutsch, requiredCodes, requiredCount, sameNumber, sameCode, noCode, tagCode, tagOf}
 
 -- Two bit patterns are the same where the numbers are.
 low-eq : (a b : ℕ) → a < 2147483648 → b < 2147483648 → eqb (2 ^ 32 - suc a) (2 ^ 32 - suc b) ≡ eqb a b
@@ -48,15 +48,15 @@ count-at k zero i h = absurd (omega arith)
 count-at k (suc n) zero h = omega arith
 count-at k (suc n) (suc i) h = omega (arith, count-at (suc k) n i (omega arith))
 
-pub first-codes : (k : ℕ) → k < 95 → k + 32 ≡ getD requiredCodes k 0
+pub first-codes : (k : ℕ) → k < asciiCount → k + 32 ≡ getD requiredCodes k 0
 unfolding requiredCodes
-first-codes k h = sym (List·getD-append (count 32 95) german 0 k (omega (arith, count-length 32 95)) ∙ count-at 32 95 k h)
+first-codes k h = sym (List·getD-append ascii deutsch 0 k (omega (arith, count-length 32 asciiCount)) ∙ count-at 32 asciiCount k h)
 
-pub last-codes : (k : ℕ) → 95 ≤ k → getD german (k - 95) 0 ≡ getD requiredCodes k 0
+pub last-codes : (k : ℕ) → asciiCount ≤ k → getD deutsch (k - asciiCount) 0 ≡ getD requiredCodes k 0
 unfolding requiredCodes
 last-codes k h =
-    let e : length (count 32 95) + (k - 95) ≡ k = omega (arith, count-length 32 95) in
-    sym (getD-append-add (count 32 95) german (k - 95) 0) ∙ ap (λ (j : ℕ). getD (count 32 95 ++ german) j 0) e
+    let e : length ascii + (k - asciiCount) ≡ k = omega (arith, count-length 32 asciiCount) in
+    sym (getD-append-add ascii deutsch (k - asciiCount) 0) ∙ ap (λ (j : ℕ). getD (ascii ++ deutsch) j 0) e
 
 pub codes-length : length requiredCodes ≡ requiredCount
 unfolding requiredCodes count

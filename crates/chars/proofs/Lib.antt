@@ -3,5 +3,6 @@ pub mod CodeLaws
 pub mod BlankLaws
 pub mod ListingLaws
 pub mod RefusalLaws
+pub mod Induction
 pub mod EntryLaws
 pub mod OrderLaws

@@ -13,10 +13,10 @@ use Rattle.ground.specs.Refusals.{refusal, badCodeTag, tooManyCharacters}
 use Rattle.ground.specs.Limits.{maxCharacters}
 use Rattle.subchars.specs.declared.Code.{Code}
 use Rattle.lines.specs.declared.Cursor.{Cursor}
-use Rattle.lines.specs.Lines.{TextLine, linesFrom, textAt, nextStart, after}
+use Rattle.lines.specs.Lines.{TextLine, linesFrom, textAt, nextStart, cursor, after}
 use Rattle.lines.proofs.LineLaws.{lines-none, lines-next, after-lines, LineFound, line-part}
 use Rattle.rows.specs.declared.Format.{Format}
-use Rattle.rows.specs.Rows.{Rows, read, refused, character, lineCount}
+use Rattle.rows.specs.Rows.{Rows, read, refused, characterRows, lineCount}
 use Rattle.rows.specs.Steps.{charThen, charAt}
 use Rattle.chars.specs.declared.TagStep.{TagStep}
 use Rattle.chars.specs.declared.TagStep.the-variants.{Tag, BadTag}
@@ -30,7 +30,7 @@ use Rattle.chars.specs.Steps.{listedThen, listedAt, tagThen, tagAt, blan
 use Rattle.chars.proofs.CodeLaws.{still-required, none-required}
 use Rattle.chars.proofs.BlankLaws.{blank-from}
 
-tag-skip : (f : Format) (size k n : ℕ) (ls : List TextLine) → taggedFrom f size k n ls ≡ taggedFrom f size 0 n (drop k ls)
+pub tag-skip : (f : Format) (size k n : ℕ) (ls : List TextLine) → taggedFrom f size k n ls ≡ taggedFrom f size 0 n (drop k ls)
 unfolding taggedFrom
 tag-skip f size zero n ls = refl
 tag-skip f size (suc k) n [] = refl
@@ -41,7 +41,7 @@ abbrev pub rest : Format → List ℕ → ℕ → ℕ → Listing
 rest f s n at = listing f (length s) (drop n requiredCodes) n (linesFrom s at)
 
 abbrev pub following : Format → List ℕ → ℕ → CharNext → Listing
-following f s n (Listed e next) = withEntry e (rest f s (suc n) next)
+following f s n (Listed e next) = withEntry e (rest f s (suc n) (next .at))
 following f s n Complete = ends finished
 following f s n (Stopped r) = ends (stopped r)
 
@@ -49,25 +49,25 @@ following f s n (Stopped r) = ends (stopped r)
 module _ (f : Format) (s : List ℕ) (n : ℕ) (g : List TextLine → Listing) (later : (next : ℕ) → g (linesFrom s next) ≡ rest f s (suc n) next) where
   character-step : (at : ℕ) (c : Code) →
       characterThen f (length s) c (linesFrom s at) (g (drop (lineCount f) (linesFrom s at))) ≡ following f s n (listedAt f s at c)
-  unfolding listedAt charAt character
+  unfolding listedAt charAt characterRows
   character-step at c = go (ltb at (length s)) refl
     where
-      by : (v : Rows) → listed v c at (g (drop (lineCount f) (linesFrom s at))) ≡ following f s n (listedThen (charThen v (after (lineCount f) s at)) c at)
+      by : (v : Rows) → listed v c at (g (drop (lineCount f) (linesFrom s at))) ≡ following f s n (listedThen (charThen v (cursor (after (lineCount f) s at))) c at)
       by (read w) = ap (withEntry (entry c at w)) (ap g (sym (after-lines (lineCount f) s at)) ∙ later (after (lineCount f) s at))
       by (refused r) = refl
 
       go : (b : Bool) → ltb at (length s) ≡ b →
-          characterThen f (length s) c (linesFrom s at) (g (drop (lineCount f) (linesFrom s at))) ≡ following f s n (listedThen (charThen (character f (length s) (linesFrom s at)) (after (lineCount f) s at)) c at)
+          characterThen f (length s) c (linesFrom s at) (g (drop (lineCount f) (linesFrom s at))) ≡ following f s n (listedThen (charThen (characterRows f (length s) (linesFrom s at)) (cursor (after (lineCount f) s at))) c at)
       go true e =
           let l = lines-next s at (ltb-true at (length s) e) in
           let more = g (drop (lineCount f) (linesFrom s at)) in
           ap (λ (ls : List TextLine). characterThen f (length s) c ls more) l ∙
-          ap (λ (ls : List TextLine). listed (character f (length s) ls) c at more) (sym l) ∙
-          by (character f (length s) (linesFrom s at))
+          ap (λ (ls : List TextLine). listed (characterRows f (length s) ls) c at more) (sym l) ∙
+          by (characterRows f (length s) (linesFrom s at))
       go false e =
           let l = lines-none s at (ltb-false at (length s) e) in
           ap (λ (ls : List TextLine). characterThen f (length s) c ls (g (drop (lineCount f) (linesFrom s at)))) l ∙
-          sym (ap (λ (ls : List TextLine). following f s n (listedThen (charThen (character f (length s) ls) (after (lineCount f) s at)) c at)) l)
+          sym (ap (λ (ls : List TextLine). following f s n (listedThen (charThen (characterRows f (length s) ls) (cursor (after (lineCount f) s at))) c at)) l)
 
 required-step : (f : Format) (s : List ℕ) (n at : ℕ) → n < requiredCount → rest f s n at ≡ following f s n (listedAt f s at (code (pos (getD requiredCodes n 0))))
 unfolding listing
@@ -82,7 +82,7 @@ no-required f s n at h = ap (λ (cs : List ℕ). listing f (length s) cs n (line
 -- A tag line, by its step.
 tag-step : (f : Format) (s : List ℕ) (n at : ℕ) (t : TagStep) → requiredCount ≤ n →
     tagged t f (length s) at n (linesFrom s (nextStart s at)) (taggedFrom f (length s) (lineCount f) (suc n) (linesFrom s (nextStart s at))) ≡
-    following f s n (taggedThen (tagThen t (nextStart s at)) f s at n)
+    following f s n (taggedThen (tagThen t (cursor (nextStart s at))) f s at n)
 tag-step f s n at BadTag h = refl
 tag-step f s n at (Tag c) h = go (ltb n maxCharacters)
   where
@@ -110,14 +110,14 @@ tagged-step f s n at h = go (ltb at (length s)) refl
     by false y r q = q
 
     go : (b : Bool) → ltb at (length s) ≡ b →
-        taggedFrom f (length s) 0 n (linesFrom s at) ≡ following f s n (cond (blankFrom s at) Complete (taggedThen (cond b (tagThen (tagOf (textAt s at)) (nextStart s at)) NoTag) f s at n))
+        taggedFrom f (length s) 0 n (linesFrom s at) ≡ following f s n (cond (blankFrom s at) Complete (taggedThen (cond b (tagThen (tagOf (textAt s at)) (cursor (nextStart s at))) NoTag) f s at n))
     go true e =
         let l = lines-next s at (ltb-true at (length s) e) in
         let ls = linesFrom s (nextStart s at) in
         let t = tagged (tagOf (textAt s at)) f (length s) at n ls (taggedFrom f (length s) (lineCount f) (suc n) ls) in
         ap (taggedFrom f (length s) 0 n) l ∙
         ap (λ (b : Bool). cond b (ends finished) t) (ap blankLines (sym l) ∙ sym (blank-from s at)) ∙
-        by (blankFrom s at) t (taggedThen (tagThen (tagOf (textAt s at)) (nextStart s at)) f s at n) (tag-step f s n at (tagOf (textAt s at)) h)
+        by (blankFrom s at) t (taggedThen (tagThen (tagOf (textAt s at)) (cursor (nextStart s at))) f s at n) (tag-step f s n at (tagOf (textAt s at)) h)
     go false e =
         let l = lines-none s at (ltb-false at (length s) e) in
         ap (taggedFrom f (length s) 0 n) l ∙ sym (ap (λ (b : Bool). following f s n (cond b Complete (taggedThen NoTag f s at n))) (blank-from s at ∙ ap blankLines l ∙ no-lines))
@@ -154,20 +154,20 @@ module _ (f : Format) (s : List ℕ) (at n : ℕ) where
     unfolding taggedAt
     tagged-is = simp e (ap (λ (x : TagAt). taggedThen x f s at n) p)
 
-    pub tagged-listed : (r : CharNext) (c : Code) (next : ℕ) → t ≡ TagLine c next → n < maxCharacters → r ≡ listedAt f s next c → r ≡ taggedAt f s at n
+    pub tagged-listed : (r : CharNext) (c : Code) (next : Cursor) → t ≡ TagLine c next → n < maxCharacters → r ≡ listedAt f s (next .at) c → r ≡ taggedAt f s at n
     tagged-listed r c next q k u = u ∙ sym (ap (λ (x : TagAt). taggedThen x f s at n) q ∙ simp (lt-ltb n maxCharacters k)) ∙ tagged-is
 
-    pub tagged-many : (c : Code) (next : ℕ) → t ≡ TagLine c next → maxCharacters ≤ n → Stopped (refusal tooManyCharacters at) ≡ taggedAt f s at n
+    pub tagged-many : (c : Code) (next : Cursor) → t ≡ TagLine c next → maxCharacters ≤ n → Stopped (refusal tooManyCharacters at) ≡ taggedAt f s at n
     tagged-many c next q k = sym (ap (λ (x : TagAt). taggedThen x f s at n) q ∙ simp (le-ltb n maxCharacters k)) ∙ tagged-is
 
     pub tagged-bad : t ≡ NoTag → Stopped (refusal badCodeTag at) ≡ taggedAt f s at n
     tagged-bad q = sym (ap (λ (x : TagAt). taggedThen x f s at n) q) ∙ tagged-is
 
 -- A tag line at a place, from the line that the cursor found.
-pub tag-line : (s : List ℕ) (at start end : ℕ) (c : Cursor) (l : LineFound s at start end c) (t : TagStep) → t ≡ tagOf (take (end - start) (drop start s)) → tagThen t (c .at) ≡ tagAt s at
+pub tag-line : (s : List ℕ) (at start end : ℕ) (c : Cursor) (l : LineFound s at start end c) (t : TagStep) → t ≡ tagOf (take (end - start) (drop start s)) → tagThen t c ≡ tagAt s at
 unfolding tagAt
 tag-line s at start end c l t p =
-    simp (lt-ltb at (length s) (l .inside)) (ap (tagThen t) (l .further) ∙ ap (λ (x : TagStep). tagThen x (nextStart s at)) (p ∙ ap tagOf (line-part s at start end c l)))
+    simp (lt-ltb at (length s) (l .inside)) (ap (λ (j : ℕ). tagThen t (cursor j)) (l .further) ∙ ap (λ (x : TagStep). tagThen x (cursor (nextStart s at))) (p ∙ ap tagOf (line-part s at start end c l)))
 
 pub tag-missed : (s : List ℕ) (at : ℕ) → length s ≤ at → NoTag ≡ tagAt s at
 unfolding tagAt

@@ -1,36 +1,34 @@
--- Where a tag line is due, 7 and 8 are given exactly when document 01's table says so, and the file ends exactly where only blanks remain.
+-- A font's characters are stopped exactly at the line where document 01's table refuses them: 5 and 6 by a character's rows, 7 and 8 by a tag line.
 -- Assumes nothing.
-use mathlib.Core.Path.{_≡_, refl, sym, ap, _∙_}
+use mathlib.Core.Path.{_≡_, refl, sym, ap, _∙_, subst}
 use mathlib.Core.Bool.{Bool, true, false, cond, true≢false}
-use mathlib.Core.List.{List}
+use mathlib.Core.List.{List, [], _∷_}
 use mathlib.Core.Logic.{_↔_}
-use Prim.Native.Nat.{ℕ, _≤_, _<_}
+use Prim.Native.Nat.{ℕ, zero, suc, _≤_, _<_}
 use native.Mathlib.Omega.{arith}
 use lib.Dec.{ltb}
 use lib.IntN.{ℤ, pos, negsuc}
-use lib.ListN.{length, getD}
+use lib.ListN.{drop}
 use borrow.Author.Tests.{lt-ltb, le-ltb, ltb-true, ltb-false, eqb-true}
-use Rattle.ground.specs.Refusals.{refusal, badCodeTag, tooManyCharacters}
+use Rattle.ground.specs.Refusals.{refusal, missingLine, badCodeTag, tooManyCharacters}
+use Rattle.ground.specs.declared.refusals.Refusal.{Refusal}
 use Rattle.ground.proofs.Tests.{clash}
 use Rattle.ground.specs.Limits.{maxCharacters}
 use Rattle.subchars.specs.declared.Code.{Code}
-use Rattle.lines.specs.Lines.{linesFrom, textAt, nextStart, after}
+use Rattle.lines.specs.Lines.{TextLine}
 use Rattle.lines.specs.Words.{firstWord}
 use Rattle.lines.specs.Numbers.{codeNumber}
 use Rattle.lines.specs.declared.numbers.CodeNumber.{CodeNumber}
 use Rattle.lines.specs.declared.numbers.CodeNumber.the-variants.{Named, NotCode}
+use Rattle.lines.proofs.StartLaws.{Starting, start-first, start-rest, start-dropped}
 use Rattle.rows.specs.declared.Format.{Format}
-use Rattle.rows.specs.Rows.{Rows, read, refused, character, lineCount}
-use Rattle.rows.specs.Steps.{charThen, charAt}
-use Rattle.rows.proofs.RefusalLaws.{refused-numbers}
+use Rattle.rows.specs.Rows.{Rows, read, refused, characterRows, lineCount}
+use Rattle.rows.proofs.RefusalLaws.{CharacterStops, character-exactly, character-inside}
 use Rattle.chars.specs.declared.TagStep.{TagStep}
 use Rattle.chars.specs.declared.TagStep.the-variants.{Tag, BadTag}
-use Rattle.chars.specs.declared.CharNext.{CharNext}
-use Rattle.chars.specs.declared.CharNext.the-variants.{Listed, Complete, Stopped}
-use Rattle.chars.specs.Codes.{code, requiredCodes, requiredCount, sameNumber, sameCode, noCode, tagCode, tagOf}
-use Rattle.chars.specs.Steps.{listedThen, listedAt, tagThen, tagAt, blankFrom, taggedThen, taggedAt, nextOf, nextAt}
-use Rattle.chars.proofs.CodeLaws.{still-required, none-required}
-use Rattle.chars.proofs.BlankLaws.{blank-all}
+use Rattle.chars.specs.Codes.{code, sameNumber, sameCode, noCode, tagCode, tagOf}
+use Rattle.chars.specs.Chars.{Ending, finished, stopped, Listing, ends, listed, characterThen, blankLines, tagged, taggedFrom, listing}
+use Rattle.chars.proofs.ListingLaws.{tag-skip}
 
 -- A bad code tag: the first word is no number within signed 32 bits, or it is -1.
 pub data BadCode (t : List ℕ) : Type 0 where
@@ -57,120 +55,129 @@ bad-exactly t = (to (codeNumber (firstWord t)) refl, from)
     from (no-number p) = ap tagCode p
     from (minus-one p) = ap tagCode p
 
--- The number of an answer, 0 for a character or the end.
-number-of : CharNext → ℕ
-number-of (Listed e next) = 0
-number-of Complete = 0
-number-of (Stopped r) = r .number
+-- The first of the lines is a tag line: more remains than "blanks, tabs and line ends", and its first word is a code.
+pub record TagLine (l : TextLine) (ls : List TextLine) : Type 0 where
+  pub more : blankLines (l ∷ ls) ≡ false
+  pub code : Code
+  pub names : tagOf (l .text) ≡ Tag code
 
-place-of : CharNext → ℕ
-place-of (Listed e next) = 0
-place-of Complete = 0
-place-of (Stopped r) = r .place
-
--- A character's own refusals are those of its rows.
-listed-number : (f : Format) (s : List ℕ) (at : ℕ) (c : Code) → number-of (listedAt f s at c) ≤ 6
-unfolding listedAt charAt number-of
-listed-number f s at c = go (character f (length s) (linesFrom s at)) refl
-  where
-    go : (v : Rows) → character f (length s) (linesFrom s at) ≡ v → number-of (listedThen (charThen v (after (lineCount f) s at)) c at) ≤ 6
-    go (read w) e = omega arith
-    go (refused r) e = refused-numbers f (length s) (linesFrom s at) r e .1
-
-module _ (f : Format) (s : List ℕ) (at n : ℕ) where
-  -- where a tag line is due: no required code is left, and more than blanks remains
-  pub record TagDue : Type 0 where
-    pub required : requiredCount ≤ n
-    pub more : blankFrom s at ≡ false
-
-  inside : blankFrom s at ≡ false → at < length s
-  inside e = go (ltb at (length s)) refl
-    where
-      go : (b : Bool) → ltb at (length s) ≡ b → at < length s
-      go true h = ltb-true at (length s) h
-      go false h = absurd (true≢false (sym (blank-all s at (ltb-false at (length s) h)) ∙ e))
-
-  due-is : (d : TagDue) → nextAt f s at n ≡ taggedThen (tagThen (tagOf (textAt s at)) (nextStart s at)) f s at n
-  unfolding nextAt taggedAt tagAt
-  due-is d =
-      ap (λ (cs : List ℕ). nextOf cs f s at n) (none-required n (d .required)) ∙
-      simp (d .more, lt-ltb at (length s) (inside (d .more)))
-
-  -- a number above 6 is given only where a tag line is due
-  only-due : 6 < number-of (nextAt f s at n) → TagDue
-  unfolding nextAt taggedAt number-of
-  only-due h = go (ltb n requiredCount) refl
-    where
-      by : requiredCount ≤ n → (b : Bool) → blankFrom s at ≡ b → 6 < number-of (cond b Complete (taggedThen (tagAt s at) f s at n)) → TagDue
-      by k true e l = absurd (omega arith)
-      by k false e l = record { required = k; more = e }
-
-      go : (b : Bool) → ltb n requiredCount ≡ b → TagDue
-      go true e =
-          let k = ltb-true n requiredCount e in
-          let p = ap (λ (cs : List ℕ). number-of (nextOf cs f s at n)) (still-required n k) in
-          absurd (omega (arith, listed-number f s at (code (pos (getD requiredCodes n 0)))))
-      go false e =
-          let k = ltb-false n requiredCount e in
-          let p = ap (λ (cs : List ℕ). number-of (nextOf cs f s at n)) (none-required n k) in
-          by k (blankFrom s at) refl (omega arith)
-
-  -- a good tag is no reason for 7
-  good-tag : (c : Code) (p : ℕ) → taggedThen (tagThen (Tag c) (nextStart s at)) f s at n ≡ Stopped (refusal badCodeTag p) → ⊥
-  unfolding number-of
-  good-tag c p e = go (ltb n maxCharacters) (ap number-of e)
-    where
-      go : (b : Bool) → number-of (cond b (listedAt f s (nextStart s at) c) (Stopped (refusal tooManyCharacters at))) ≡ 7 → ⊥
-      go true q = omega (arith, listed-number f s (nextStart s at) c)
-      go false q = omega arith
-
+-- "Then 5 to 8 as met line by line": where the characters of the given codes are still required, n others being before them, the line at which they
+-- are refused.
+pub data CharactersStop (f : Format) (size : ℕ) : List ℕ → ℕ → List TextLine → Refusal → Type 0 where
+  -- 5 and 6: the rows of a required character
+  in-required : {c : ℕ} {cs : List ℕ} {n : ℕ} {ls : List TextLine} {r : Refusal} → CharacterStops f size ls r → CharactersStop f size (c ∷ cs) n ls r
+  past-required : {c : ℕ} {cs : List ℕ} {n : ℕ} {ls : List TextLine} {r : Refusal} (w : ℕ) →
+      characterRows f size ls ≡ read w → CharactersStop f size cs (suc n) (drop (lineCount f) ls) r → CharactersStop f size (c ∷ cs) n ls r
   -- 7: "bad code tag", at the "start of that line"
-  pub refused-7 : (p : ℕ) → nextAt f s at n ≡ Stopped (refusal badCodeTag p) ↔ (TagDue × BadCode (textAt s at) × (p ≡ at))
-  unfolding number-of place-of
-  refused-7 p = (to, from)
+  bad-tag : {n : ℕ} {l : TextLine} {ls : List TextLine} → blankLines (l ∷ ls) ≡ false → BadCode (l .text) → CharactersStop f size [] n (l ∷ ls) (refusal badCodeTag (l .start))
+  -- 8: "a 513th character", at the "start of its tag line"; "on one tag line 7 before 8"
+  too-many : {n : ℕ} {l : TextLine} {ls : List TextLine} → TagLine l ls → maxCharacters ≤ n → CharactersStop f size [] n (l ∷ ls) (refusal tooManyCharacters (l .start))
+  -- 5 and 6: the rows of a tagged character, behind its tag line
+  in-tagged : {n : ℕ} {l : TextLine} {ls : List TextLine} {r : Refusal} → TagLine l ls → n < maxCharacters → CharacterStops f size ls r → CharactersStop f size [] n (l ∷ ls) r
+  past-tagged : {n : ℕ} {l : TextLine} {ls : List TextLine} {r : Refusal} (w : ℕ) → TagLine l ls → n < maxCharacters →
+      characterRows f size ls ≡ read w → CharactersStop f size [] (suc n) (drop (lineCount f) ls) r → CharactersStop f size [] n (l ∷ ls) r
+
+-- How characters end, by the rows of the first and how the others end.
+abbrev endingBy : Rows → Ending → Ending
+endingBy (read w) more = more
+endingBy (refused r) more = stopped r
+
+module _ (f : Format) (size : ℕ) where
+  ending-is : (c : Code) (ls : List TextLine) (more : Listing) → characterThen f size c ls more .ending ≡ endingBy (characterRows f size ls) (more .ending)
+  unfolding characterRows
+  ending-is c [] more = refl
+  ending-is c (l ∷ ls) more = go (characterRows f size (l ∷ ls))
     where
-      by : TagDue → (t : TagStep) → tagOf (textAt s at) ≡ t → taggedThen (tagThen t (nextStart s at)) f s at n ≡ Stopped (refusal badCodeTag p) → TagDue × BadCode (textAt s at) × (p ≡ at)
-      by d BadTag q e = (d, bad-exactly (textAt s at) .0 q, sym (ap place-of e))
-      by d (Tag c) q e = absurd (good-tag c p e)
+      go : (v : Rows) → listed v c (l .start) more .ending ≡ endingBy v (more .ending)
+      go (read w) = refl
+      go (refused r) = refl
 
-      to : nextAt f s at n ≡ Stopped (refusal badCodeTag p) → TagDue × BadCode (textAt s at) × (p ≡ at)
-      to e =
-          let m = ap number-of e in
-          let d = only-due (omega arith) in
-          by d (tagOf (textAt s at)) refl (sym (due-is d) ∙ e)
+  -- the lines from a tag line on
+  module _ (n : ℕ) (l : TextLine) (ls : List TextLine) where
+    abbrev others : Listing
+    others = taggedFrom f size (lineCount f) (suc n) ls
 
-      from : TagDue × BadCode (textAt s at) × (p ≡ at) → nextAt f s at n ≡ Stopped (refusal badCodeTag p)
-      from w =
-          due-is (w .0) ∙ ap (λ (t : TagStep). taggedThen (tagThen t (nextStart s at)) f s at n) (bad-exactly (textAt s at) .1 (w .1)) ∙
-          ap (λ (j : ℕ). Stopped (refusal badCodeTag j)) (sym (w .2))
+    tag-due : blankLines (l ∷ ls) ≡ false → taggedFrom f size 0 n (l ∷ ls) ≡ tagged (tagOf (l .text)) f size (l .start) n ls others
+    unfolding taggedFrom
+    tag-due m = ap (λ (b : Bool). cond b (ends finished) (tagged (tagOf (l .text)) f size (l .start) n ls others)) m
 
-  -- 8: "a 513th character", at the "start of its tag line", which is good
-  pub record TooMany : Type 0 where
-    pub due : TagDue
-    pub tag : Code
-    pub good : tagOf (textAt s at) ≡ Tag tag
-    pub many : maxCharacters ≤ n
+    tag-named : (t : TagLine l ls) → taggedFrom f size 0 n (l ∷ ls) ≡ tagged (Tag (t .code)) f size (l .start) n ls others
+    tag-named t = tag-due (t .more) ∙ ap (λ (x : TagStep). tagged x f size (l .start) n ls others) (t .names)
 
-  pub refused-8 : (p : ℕ) → nextAt f s at n ≡ Stopped (refusal tooManyCharacters p) ↔ (TooMany × (p ≡ at))
-  unfolding number-of place-of
-  refused-8 p = (to, from)
+    tag-room : (t : TagLine l ls) → n < maxCharacters → taggedFrom f size 0 n (l ∷ ls) .ending ≡ endingBy (characterRows f size ls) (taggedFrom f size 0 (suc n) (drop (lineCount f) ls) .ending)
+    tag-room t h =
+        ap (λ (x : Listing). x .ending) (tag-named t ∙ ap (λ (b : Bool). cond b (characterThen f size (t .code) ls others) (ends (stopped (refusal tooManyCharacters (l .start))))) (lt-ltb n maxCharacters h)) ∙
+        ending-is (t .code) ls others ∙ ap (λ (x : Listing). endingBy (characterRows f size ls) (x .ending)) (tag-skip f size (lineCount f) (suc n) ls)
+
+  characters-stopped : (cs : List ℕ) (n : ℕ) (ls : List TextLine) (r : Refusal) → CharactersStop f size cs n ls r → listing f size cs n ls .ending ≡ stopped r
+  unfolding listing
+  characters-stopped (c ∷ cs) n ls r (in-required s) =
+      let more = listing f size cs (suc n) (drop (lineCount f) ls) in
+      ending-is (code (pos c)) ls more ∙ ap (λ (v : Rows). endingBy v (more .ending)) (character-exactly f size ls r .1 s)
+  characters-stopped (c ∷ cs) n ls r (past-required w e s) =
+      let more = listing f size cs (suc n) (drop (lineCount f) ls) in
+      ending-is (code (pos c)) ls more ∙ ap (λ (v : Rows). endingBy v (more .ending)) e ∙ characters-stopped cs (suc n) (drop (lineCount f) ls) r s
+  characters-stopped [] n (l ∷ ls) _ (bad-tag m b) =
+      ap (λ (x : Listing). x .ending) (tag-due n l ls m ∙ ap (λ (x : TagStep). tagged x f size (l .start) n ls (others n l ls)) (bad-exactly (l .text) .1 b))
+  characters-stopped [] n (l ∷ ls) _ (too-many t h) =
+      ap (λ (x : Listing). x .ending)
+      (tag-named n l ls t ∙ ap (λ (b : Bool). cond b (characterThen f size (t .code) ls (others n l ls)) (ends (stopped (refusal tooManyCharacters (l .start))))) (le-ltb n maxCharacters h))
+  characters-stopped [] n (l ∷ ls) r (in-tagged t h s) =
+      tag-room n l ls t h ∙ ap (λ (v : Rows). endingBy v (taggedFrom f size 0 (suc n) (drop (lineCount f) ls) .ending)) (character-exactly f size ls r .1 s)
+  characters-stopped [] n (l ∷ ls) r (past-tagged w t h e s) =
+      tag-room n l ls t h ∙ ap (λ (v : Rows). endingBy v (taggedFrom f size 0 (suc n) (drop (lineCount f) ls) .ending)) e ∙ characters-stopped [] (suc n) (drop (lineCount f) ls) r s
+
+  only-tagged : (k n : ℕ) (ls : List TextLine) (r : Refusal) → taggedFrom f size k n ls .ending ≡ stopped r → CharactersStop f size [] n (drop k ls) r
+  unfolding taggedFrom
+  only-tagged zero n [] r e = clash (cc)
+  only-tagged (suc k) n [] r e = clash (cc)
+  only-tagged (suc k) n (l ∷ ls) r e = only-tagged k n ls r e
+  only-tagged zero n (l ∷ ls) r e = go (blankLines (l ∷ ls)) refl (tagOf (l .text)) refl e (only-tagged (lineCount f) (suc n) ls r)
     where
-      room : TagDue → (c : Code) → tagOf (textAt s at) ≡ Tag c → (b : Bool) → ltb n maxCharacters ≡ b →
-          cond b (listedAt f s (nextStart s at) c) (Stopped (refusal tooManyCharacters at)) ≡ Stopped (refusal tooManyCharacters p) → TooMany × (p ≡ at)
-      room d c q true b e = let m = ap number-of e in absurd (omega (arith, listed-number f s (nextStart s at) c))
-      room d c q false b e = (record { due = d; tag = c; good = q; many = ltb-false n maxCharacters b }, sym (ap place-of e))
+      rows : TagLine l ls → n < maxCharacters → (v : Rows) → characterRows f size ls ≡ v → endingBy v (others n l ls .ending) ≡ stopped r →
+          (others n l ls .ending ≡ stopped r → CharactersStop f size [] (suc n) (drop (lineCount f) ls) r) → CharactersStop f size [] n (l ∷ ls) r
+      rows t h (read w) p q more = past-tagged w t h p (more q)
+      rows t h (refused z) p q more = let d : z ≡ r = cc in in-tagged t h (character-exactly f size ls r .0 (p ∙ ap refused d))
 
-      by : TagDue → (t : TagStep) → tagOf (textAt s at) ≡ t → taggedThen (tagThen t (nextStart s at)) f s at n ≡ Stopped (refusal tooManyCharacters p) → TooMany × (p ≡ at)
-      by d BadTag q e = let m = ap number-of e in absurd (omega arith)
-      by d (Tag c) q e = room d c q (ltb n maxCharacters) refl e
+      room : TagLine l ls → (c : Code) (b : Bool) → ltb n maxCharacters ≡ b → cond b (characterThen f size c ls (others n l ls)) (ends (stopped (refusal tooManyCharacters (l .start)))) .ending ≡ stopped r →
+          (others n l ls .ending ≡ stopped r → CharactersStop f size [] (suc n) (drop (lineCount f) ls) r) → CharactersStop f size [] n (l ∷ ls) r
+      room t c true b q more = rows t (ltb-true n maxCharacters b) (characterRows f size ls) refl (sym (ending-is c ls (others n l ls)) ∙ q) more
+      room t c false b q more =
+          let p : refusal tooManyCharacters (l .start) ≡ r = cc in
+          subst (CharactersStop f size [] n (l ∷ ls)) p (too-many t (ltb-false n maxCharacters b))
 
-      to : nextAt f s at n ≡ Stopped (refusal tooManyCharacters p) → TooMany × (p ≡ at)
-      to e =
-          let m = ap number-of e in
-          let d = only-due (omega arith) in
-          by d (tagOf (textAt s at)) refl (sym (due-is d) ∙ e)
+      go : (b : Bool) → blankLines (l ∷ ls) ≡ b → (t : TagStep) → tagOf (l .text) ≡ t → cond b (ends finished) (tagged t f size (l .start) n ls (others n l ls)) .ending ≡ stopped r →
+          (others n l ls .ending ≡ stopped r → CharactersStop f size [] (suc n) (drop (lineCount f) ls) r) → CharactersStop f size [] n (l ∷ ls) r
+      go true m t p q more = clash (cc)
+      go false m BadTag p q more =
+          let d : refusal badCodeTag (l .start) ≡ r = cc in
+          subst (CharactersStop f size [] n (l ∷ ls)) d (bad-tag {l = l} m (bad-exactly (l .text) .0 p))
+      go false m (Tag c) p q more = room (record { more = m; code = c; names = p }) c (ltb n maxCharacters) refl q more
 
-      from : TooMany × (p ≡ at) → nextAt f s at n ≡ Stopped (refusal tooManyCharacters p)
-      from w =
-          due-is (w .0 .due) ∙ ap (λ (t : TagStep). taggedThen (tagThen t (nextStart s at)) f s at n) (w .0 .good) ∙
-          simp (le-ltb n maxCharacters (w .0 .many)) (ap (λ (j : ℕ). Stopped (refusal tooManyCharacters j)) (sym (w .1)))
+  only-characters : (cs : List ℕ) (n : ℕ) (ls : List TextLine) (r : Refusal) → listing f size cs n ls .ending ≡ stopped r → CharactersStop f size cs n ls r
+  unfolding listing
+  only-characters [] n ls r e = only-tagged 0 n ls r e
+  only-characters (c ∷ cs) n ls r e =
+      go (characterRows f size ls) refl (sym (ending-is (code (pos c)) ls (listing f size cs (suc n) (drop (lineCount f) ls))) ∙ e) (only-characters cs (suc n) (drop (lineCount f) ls) r)
+    where
+      more : Listing
+      more = listing f size cs (suc n) (drop (lineCount f) ls)
+
+      go : (v : Rows) → characterRows f size ls ≡ v → endingBy v (more .ending) ≡ stopped r →
+          (more .ending ≡ stopped r → CharactersStop f size cs (suc n) (drop (lineCount f) ls) r) → CharactersStop f size (c ∷ cs) n ls r
+      go (read w) p q further = past-required w p (further q)
+      go (refused z) p q further = let d : z ≡ r = cc in in-required (character-exactly f size ls r .0 (p ∙ ap refused d))
+
+  -- 5 to 8: characters are stopped exactly so
+  pub characters-exactly : (cs : List ℕ) (n : ℕ) (ls : List TextLine) (r : Refusal) → listing f size cs n ls .ending ≡ stopped r ↔ CharactersStop f size cs n ls r
+  characters-exactly cs n ls r = (only-characters cs n ls r, characters-stopped cs n ls r)
+
+  -- by no other number, at a place within the font or at its end
+  pub characters-inside : (cs : List ℕ) (n : ℕ) (ls : List TextLine) (r : Refusal) → Starting size ls → CharactersStop f size cs n ls r →
+      (missingLine ≤ r .number) × (r .number ≤ tooManyCharacters) × (r .place ≤ size)
+  characters-inside (c ∷ cs) n ls r t (in-required s) = let k = character-inside f size ls r t s in (k .0, omega (arith, k .1), k .2)
+  characters-inside (c ∷ cs) n ls r t (past-required w e s) = characters-inside cs (suc n) (drop (lineCount f) ls) r (start-dropped size (lineCount f) ls t) s
+  characters-inside [] n (l ∷ ls) _ t (bad-tag m b) = (omega arith, omega arith, start-first size l ls t)
+  characters-inside [] n (l ∷ ls) _ t (too-many g h) = (omega arith, omega arith, start-first size l ls t)
+  characters-inside [] n (l ∷ ls) r t (in-tagged g h s) = let k = character-inside f size ls r (start-rest size l ls t) s in (k .0, omega (arith, k .1), k .2)
+  characters-inside [] n (l ∷ ls) r t (past-tagged w g h e s) = characters-inside [] (suc n) (drop (lineCount f) ls) r (start-dropped size (lineCount f) ls (start-rest size l ls t)) s

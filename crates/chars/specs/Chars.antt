@@ -14,7 +14,7 @@ use Rattle.subchars.specs.declared.Code.{Code}
 use Rattle.lines.specs.Lines.{TextLine}
 use Rattle.lines.specs.Words.{isBlank}
 use Rattle.rows.specs.declared.Format.{Format}
-use Rattle.rows.specs.Rows.{Rows, read, refused, character, lineCount}
+use Rattle.rows.specs.Rows.{Rows, read, refused, characterRows, lineCount}
 use Rattle.chars.specs.declared.Entry.{Entry}
 use Rattle.chars.specs.declared.TagStep.{TagStep}
 use Rattle.chars.specs.declared.TagStep.the-variants.{Tag, BadTag}
@@ -47,7 +47,7 @@ listed (refused r) c start more = ends (stopped r)
 
 abbrev pub characterThen : Format → ℕ → Code → List TextLine → Listing → Listing
 characterThen f size c [] more = ends (stopped (refusal missingLine size))
-characterThen f size c (l ∷ ls) more = listed (character f size (l ∷ ls)) c (l .start) more
+characterThen f size c (l ∷ ls) more = listed (characterRows f size (l ∷ ls)) c (l .start) more
 
 -- "All that remains is blanks, tabs and line ends."
 unfoldable pub blankLines : List TextLine → Bool

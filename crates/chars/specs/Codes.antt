@@ -19,11 +19,17 @@ count k zero = []
 count k (suc n) = k ∷ count (suc k) n
 
 -- "Codes 32 to 126, then 196, 214, 220, 228, 246, 252, 223."
-abbrev pub german : List ℕ
-german = 196 ∷ 214 ∷ 220 ∷ 228 ∷ 246 ∷ 252 ∷ 223 ∷ []
+abbrev pub asciiCount : ℕ
+asciiCount = 95
+
+abbrev pub ascii : List ℕ
+ascii = count 32 asciiCount
+
+abbrev pub deutsch : List ℕ
+deutsch = 196 ∷ 214 ∷ 220 ∷ 228 ∷ 246 ∷ 252 ∷ 223 ∷ []
 
 unfoldable pub requiredCodes : List ℕ
-requiredCodes = count 32 95 ++ german
+requiredCodes = ascii ++ deutsch
 
 -- How many they are.
 abbrev pub requiredCount : ℕ
@@ -32,7 +38,7 @@ requiredCount = 102
 abbrev pub code : ℤ → Code
 code z = record { 0 = z }
 
--- Two codes are the same.
+-- Whether two codes are the same.
 abbrev pub sameNumber : ℤ → ℤ → Bool
 sameNumber (pos a) (pos b) = eqb a b
 sameNumber (pos a) (negsuc b) = false

@@ -10,7 +10,8 @@ use Rattle.ground.specs.Runs.{all}
 use Rattle.ground.specs.Refusals.{refusal, badCodeTag, tooManyCharacters}
 use Rattle.ground.specs.Limits.{maxCharacters}
 use Rattle.subchars.specs.declared.Code.{Code}
-use Rattle.lines.specs.Lines.{isEnd, textAt, nextStart}
+use Rattle.lines.specs.declared.Cursor.{Cursor}
+use Rattle.lines.specs.Lines.{isEnd, textAt, nextStart, cursor}
 use Rattle.lines.specs.Words.{isBlank}
 use Rattle.rows.specs.declared.Format.{Format}
 use Rattle.rows.specs.declared.CharStep.{CharStep}
@@ -34,12 +35,12 @@ unfoldable pub listedAt : Format → List ℕ → ℕ → Code → CharNext
 listedAt f s at c = listedThen (charAt f s at) c at
 
 -- The tag line at a place.
-abbrev pub tagThen : TagStep → ℕ → TagAt
+abbrev pub tagThen : TagStep → Cursor → TagAt
 tagThen (Tag c) next = TagLine c next
 tagThen BadTag next = NoTag
 
 unfoldable pub tagAt : List ℕ → ℕ → TagAt
-tagAt s at = cond (ltb at (length s)) (tagThen (tagOf (textAt s at)) (nextStart s at)) NoTag
+tagAt s at = cond (ltb at (length s)) (tagThen (tagOf (textAt s at)) (cursor (nextStart s at))) NoTag
 
 -- Only blanks, tabs and line ends remain.
 abbrev pub isSpace : ℕ → Bool
@@ -50,7 +51,7 @@ blankFrom s at = all isSpace (drop at s)
 
 -- The tagged character whose tag line is at a place, after n others.
 abbrev pub taggedThen : TagAt → Format → List ℕ → ℕ → ℕ → CharNext
-taggedThen (TagLine c next) f s at n = cond (ltb n maxCharacters) (listedAt f s next c) (Stopped (refusal tooManyCharacters at))
+taggedThen (TagLine c next) f s at n = cond (ltb n maxCharacters) (listedAt f s (next .at) c) (Stopped (refusal tooManyCharacters at))
 taggedThen NoTag f s at n = Stopped (refusal badCodeTag at)
 
 unfoldable pub taggedAt : Format → List ℕ → ℕ → ℕ → CharNext

@@ -29,25 +29,25 @@ pub enum TagStep {
     BadTag,
 }
 
-// The tag line at a place of a font, and the place behind it.
+// The tag line at a place of a font, and the cursor behind it.
 pub enum TagAt {
-    TagLine { code: Code, next: usize },
+    TagLine { code: Code, next: Cursor },
     NoTag,
 }
 
-// The next FIGcharacter of a font, and the place behind it.
+// The next FIGcharacter of a font, and the cursor behind it.
 pub enum CharNext {
-    Listed { entry: Entry, next: usize },
+    Listed { entry: Entry, next: Cursor },
     Complete,
     Stopped(Refusal),
 }
 
-// Of the required codes the first 95 are 32 to 126, and the others these.
+// The required codes: those of ASCII from 32 to 126, and the seven of Deutsch.
 const REQUIRED: usize = 102;
 
 const ASCII: usize = 95;
 
-const GERMAN: [usize; 7] = [196, 214, 220, 228, 246, 252, 223];
+const DEUTSCH: [usize; 7] = [196, 214, 220, 228, 246, 252, 223];
 
 // The k-th of the required codes, from 0.
 fn required(k: usize) -> usize
@@ -57,7 +57,7 @@ fn required(k: usize) -> usize
     if k < ASCII {
         return k + 32;
     }
-    GERMAN[k - ASCII]
+    DEUTSCH[k - ASCII]
 }
 
 pub fn same_code(a: Code, b: Code) -> bool
@@ -66,7 +66,7 @@ pub fn same_code(a: Code, b: Code) -> bool
     a.0 == b.0
 }
 
-// The code that a tag line gives; -1 is none.
+// The code that a tag line gives; -1 is not one.
 fn tag_of(t: &[u8]) -> TagStep
     ensures { λ r. ⌜ r ≡ tagOf (now (t .entry)) ⌝ }
 {
@@ -84,19 +84,15 @@ fn tag_of(t: &[u8]) -> TagStep
     }
 }
 
-// The tag line at a place of a font.
-fn tag_at(s: &[u8], at: usize) -> TagAt
-    ensures { λ r. ⌜ r ≡ tagAt (now (s .entry)) at ⌝ }
+// The tag line at a cursor.
+fn tag_at(s: &[u8], cursor: Cursor) -> TagAt
+    ensures { λ r. ⌜ r ≡ tagAt (now (s .entry)) (cursor .at) ⌝ }
 {
-    let cursor = Cursor { at };
     match cursor.next(s) {
-        LineStep::Line { start, end, next } => {
-            let n = next.at;
-            match tag_of(&s[start..end]) {
-                TagStep::Tag(code) => TagAt::TagLine { code, next: n },
-                TagStep::BadTag => TagAt::NoTag,
-            }
-        }
+        LineStep::Line { start, end, next } => match tag_of(&s[start..end]) {
+            TagStep::Tag(code) => TagAt::TagLine { code, next },
+            TagStep::BadTag => TagAt::NoTag,
+        },
         LineStep::NoLine => TagAt::NoTag,
     }
 }
@@ -121,15 +117,15 @@ fn rest_is_blank(s: &[u8], at: usize) -> bool
     true
 }
 
-// The character of a code, whose first row line is at a place.
-fn listed_at(f: Format, s: &[u8], at: usize, code: Code) -> CharNext
-    ensures { λ r. ⌜ r ≡ listedAt f (now (s .entry)) at code ⌝ }
+// The character of a code, whose first row line is at a cursor.
+fn listed_at(f: Format, s: &[u8], cursor: Cursor, code: Code) -> CharNext
+    ensures { λ r. ⌜ r ≡ listedAt f (now (s .entry)) (cursor .at) code ⌝ }
 {
-    match rows::char_at(f, s, at) {
+    match rows::char_at(f, s, cursor) {
         CharStep::Char { width, next } => CharNext::Listed {
             entry: Entry {
                 code,
-                start: at,
+                start: cursor.at,
                 width,
             },
             next,
@@ -138,37 +134,37 @@ fn listed_at(f: Format, s: &[u8], at: usize, code: Code) -> CharNext
     }
 }
 
-// The tagged character whose tag line is at a place, after n others.
-fn tagged_at(f: Format, s: &[u8], at: usize, n: usize) -> CharNext
-    ensures { λ r. ⌜ r ≡ taggedAt f (now (s .entry)) at n ⌝ }
+// The tagged character whose tag line is at a cursor, after n others.
+fn tagged_at(f: Format, s: &[u8], cursor: Cursor, n: usize) -> CharNext
+    ensures { λ r. ⌜ r ≡ taggedAt f (now (s .entry)) (cursor .at) n ⌝ }
 {
-    if rest_is_blank(s, at) {
+    if rest_is_blank(s, cursor.at) {
         return CharNext::Complete;
     }
-    match tag_at(s, at) {
+    match tag_at(s, cursor) {
         TagAt::TagLine { code, next } => {
             if n < limits::MAX_CHARACTERS {
                 return listed_at(f, s, next, code);
             }
             CharNext::Stopped(Refusal {
                 number: refusals::TOO_MANY_CHARACTERS,
-                place: at,
+                place: cursor.at,
             })
         }
         TagAt::NoTag => CharNext::Stopped(Refusal {
             number: refusals::BAD_CODE_TAG,
-            place: at,
+            place: cursor.at,
         }),
     }
 }
 
-// The character at a place, after n others.
-pub fn next_char(f: Format, s: &[u8], at: usize, n: usize) -> CharNext
-    ensures { λ r. ⌜ r ≡ nextAt f (now (s .entry)) at n ⌝ }
+// The character at a cursor, after n others.
+pub fn next_char(f: Format, s: &[u8], cursor: Cursor, n: usize) -> CharNext
+    ensures { λ r. ⌜ r ≡ nextAt f (now (s .entry)) (cursor .at) n ⌝ }
 {
     if n < REQUIRED {
         let code = Code(required(n) as i32);
-        return listed_at(f, s, at, code);
+        return listed_at(f, s, cursor, code);
     }
-    tagged_at(f, s, at, n)
+    tagged_at(f, s, cursor, n)
 }

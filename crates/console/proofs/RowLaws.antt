@@ -13,23 +13,23 @@ use borrow.Author.Tests.{ltb-false}
 use Rattle.ground.specs.Limits.{maxLineWidth, maxText}
 use Rattle.ground.specs.Refusals.{refusal, lineTooWide, areaTooSmall}
 use Rattle.ground.specs.declared.refusals.Refusal.{Refusal}
-use Rattle.join.specs.Join.{Figure}
+use Rattle.join.specs.Join.{Block}
 use Rattle.figure.specs.Line.{outputOf}
 use Rattle.drawing.specs.declared.Files.{Files}
 use Rattle.drawing.specs.declared.Files.the-variants as files
 use Rattle.figure.specs.declared.DrawAnswer.{DrawAnswer}
 use Rattle.figure.specs.declared.DrawAnswer.the-variants.{Drawn, Refused}
-use Rattle.drawing.specs.Drawing.{Lined, unlined, linedOf, answerOf, PutOut}
+use Rattle.drawing.specs.Drawing.{Lined, unlined, linedOf, linedAnswer, PutOut}
 use Rattle.drawing.specs.Held.{FilesHeld}
-use Rattle.drawing.proofs.CharacterLaws.{few-rows}
+use Rattle.source.proofs.CharacterLaws.{few-rows}
 use Rattle.drawing.proofs.OutputLaws.{text-long, text-lined}
-use Rattle.console.specs.Rows.{RowsIn}
+use Rattle.console.specs.Rows.{RowsFit}
 
 -- A refused line has no width.
-unlined-none : (l : Lined) (r : Refusal) (room w : ℕ) → l ≡ unlined r → Drawn w ≡ answerOf l room → ⊥
-unfolding answerOf
+unlined-none : (l : Lined) (r : Refusal) (room w : ℕ) → l ≡ unlined r → Drawn w ≡ linedAnswer l room → ⊥
+unfolding linedAnswer
 unlined-none l r room w e a =
-    let b : Drawn w ≡ Refused r = a ∙ ap (λ (k : Lined). answerOf k room) e in
+    let b : Drawn w ≡ Refused r = a ∙ ap (λ (k : Lined). linedAnswer k room) e in
     let z : _≡_ {A = ℕ} 0 1 = cc in
     omega arith
 
@@ -43,7 +43,7 @@ answer-cases true q v w e = let z : _≡_ {A = ℕ} 0 1 = cc in absurd (omega ar
 answer-cases false true v w e = let z : _≡_ {A = ℕ} 0 1 = cc in absurd (omega arith)
 answer-cases false false v w e = (refl, refl, cc)
 
-drawn-fits : (h : ℕ) (line : Figure) (room w : ℕ) → Drawn w ≡ outputOf h line room → Fits h w room
+drawn-fits : (h : ℕ) (line : Block) (room w : ℕ) → Drawn w ≡ outputOf h line room → Fits h w room
 unfolding outputOf
 drawn-fits h line room w a =
     let x = answer-cases (ltb maxLineWidth (line .width)) (ltb room (h * (line .width + 1))) (line .width) w a in
@@ -53,18 +53,18 @@ drawn-fits h line room w a =
     }
 
 module _ (s control text : List ℕ) (codes : List ℤ) (starts widths places stages : List ℕ) (firsts lasts news : List ℤ) (room w : ℕ) (out : List ℕ) where
-  pub rows-in : (f : Files) → FilesHeld s control f codes starts widths places stages firsts lasts news → PutOut (linedOf s control text) room (Drawn w) out → RowsIn f w room
-  unfolding answerOf
+  pub rows-in : (f : Files) → FilesHeld s control f codes starts widths places stages firsts lasts news → PutOut (linedOf s control text) room (Drawn w) out → RowsFit f w room
+  unfolding linedAnswer
   rows-in (files.Read h n m) held put =
       elim (decLt maxText (length text)) [
         | yes l ↦ absurd (unlined-none _ _ room w (text-long s control text h _ _ _ (held .0 .said) (held .1 .said) l) (put .answers))
         | no l ↦
             let e = text-lined s control text h _ _ _ (held .0 .said) (held .1 .said) (omega arith) in
-            let x = drawn-fits (h .height) _ room w (put .answers ∙ ap (λ (k : Lined). answerOf k room) e) in
+            let x = drawn-fits (h .height) _ room w (put .answers ∙ ap (λ (k : Lined). linedAnswer k room) e) in
             record { few = few-rows s h n codes starts widths places (held .0); narrow = x .narrow; inside = x .inside }
       ]
   rows-in (files.Refused r) held put = absurd (unlined-none _ r room w (held text) (put .answers))
 
   -- The same of an answer, and of the output after it.
-  pub rows-answered : (f : Files) → FilesHeld s control f codes starts widths places stages firsts lasts news → (a : DrawAnswer) (room′ : ℕ) → a ≡ Drawn w → PutOut (linedOf s control text) room a out → room′ ≡ room → RowsIn f w room′
+  pub rows-answered : (f : Files) → FilesHeld s control f codes starts widths places stages firsts lasts news → (a : DrawAnswer) (room′ : ℕ) → a ≡ Drawn w → PutOut (linedOf s control text) room a out → room′ ≡ room → RowsFit f w room′
   rows-answered f held a room′ e put r = rw r (rows-in f held (rw e at put))

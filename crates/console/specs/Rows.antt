@@ -11,7 +11,7 @@ heightOf (Read h n m) = h .height
 heightOf (Refused r) = 0
 
 -- The rows of a line w wide, each with its LF, lie in an output of the given room.
-pub record RowsIn (files : Files) (w room : ℕ) : Type 0 where
+pub record RowsFit (files : Files) (w room : ℕ) : Type 0 where
   pub few : heightOf files ≤ maxHeight
   pub narrow : w ≤ maxLineWidth
   pub inside : heightOf files * (w + 1) ≤ room

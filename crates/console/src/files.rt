@@ -1,6 +1,7 @@
 // The files of the current folder, each read with room for a byte more than it may have, so that a file that is too long is seen to be.
 use crate::input::print_input;
 use ground::limits;
+use index::latest;
 ghost use Rattle.io.specs.Counts.{Counts};
 
 const MOST_FONT: usize = limits::MAX_FONT_LENGTH + 1;
@@ -44,7 +45,7 @@ fn draw_by(font: &[u8], control: &[u8]) {
     let mut codes = [0i32; limits::MAX_CHARACTERS];
     let mut starts = [0usize; limits::MAX_CHARACTERS];
     let mut widths = [0usize; limits::MAX_CHARACTERS];
-    let mut places = [0usize; 256];
+    let mut places = [0usize; latest::SMALL_CODES];
     let mut stages = [0usize; limits::MAX_COMMANDS];
     let mut firsts = [0i32; limits::MAX_COMMANDS];
     let mut lasts = [0i32; limits::MAX_COMMANDS];

@@ -11,7 +11,7 @@ ghost use Prim.Native.Nat.{ℕ, _≤_};
 ghost use lib.ListN.{length};
 ghost use Rattle.ground.specs.Limits.{minScratch};
 ghost use Rattle.drawing.specs.Held.{FilesHeld};
-ghost use Rattle.console.specs.Rows.{heightOf, RowsIn};
+ghost use Rattle.console.specs.Rows.{heightOf, RowsFit};
 
 // Room for the largest output: 32 rows of 1,000 columns, each with its LF.
 const ROOM: usize = limits::MAX_HEIGHT * (limits::MAX_LINE_WIDTH + 1);
@@ -40,7 +40,7 @@ fn height_of(files: Files) -> usize
 
 // The rows of a line w wide, which lie at the start of the output.
 fn print_rows(out: &[u8], files: Files, w: usize)
-    requires { ⌜ RowsIn files w (length (now out)) ⌝ }
+    requires { ⌜ RowsFit files w (length (now out)) ⌝ }
 {
     let h = height_of(files);
     let n = h * (w + 1);

@@ -1,7 +1,8 @@
 -- The laws of drawing.
-pub mod MarkLaws
 pub mod CharacterLaws
 pub mod TextLaws
 pub mod OutputLaws
+pub mod SizeLaws
 pub mod HeldLaws
 pub mod DrawingLaws
+pub mod Answers

@@ -1,7 +1,7 @@
 -- What is put out of the scratch area is what the line of the text comes to, and what each refusal leaves.
 -- Assumes nothing.
 use mathlib.Core.Path.{_≡_, refl, sym, ap, _∙_}
-use mathlib.Core.Bool.{Bool, cond}
+use mathlib.Core.Bool.{Bool, true, false, cond}
 use mathlib.Core.List.{List}
 use Prim.Native.Nat.{ℕ, _-_, _≤_, _<_}
 use native.Mathlib.Omega.{arith}
@@ -14,7 +14,7 @@ use Rattle.ground.specs.Limits.{maxLineWidth, maxText}
 use Rattle.ground.specs.Refusals.{refusal, textTooLong, lineTooWide}
 use Rattle.ground.specs.declared.refusals.Refusal.{Refusal}
 use Rattle.subchars.specs.declared.Mode.{Mode}
-use Rattle.join.specs.Join.{Figure}
+use Rattle.join.specs.Join.{Block}
 use Rattle.figure.specs.Line.{outputOf, outputBytes}
 use Rattle.figure.specs.Scratch.{scratchLine}
 use Rattle.figure.proofs.Showing.{too-wide, no-bytes, output-like, bytes-like}
@@ -25,56 +25,54 @@ use Rattle.flc.specs.declared.Command.{Command}
 use Rattle.flc.specs.Control as flc
 use Rattle.figure.specs.declared.DrawAnswer.{DrawAnswer}
 use Rattle.figure.specs.declared.DrawAnswer.the-variants.{Refused}
-use Rattle.drawing.specs.Drawing.{modeOf, lineOf, lined, unlined, linedBy, linedOf, answerOf, bytesOf, PutOut}
+use Rattle.drawing.specs.Drawing.{modeOf, fontLine, lined, unlined, linedBy, linedOf, linedAnswer, bytesOf, PutOut}
 use Rattle.drawing.specs.Steps.{Reached}
 
 -- A refusal leaves zeros.
 pub unlined-out : (r : Refusal) (room : ℕ) (out : List ℕ) → out ≡ zeros (room - 0) → PutOut (unlined r) room (Refused r) out
-unfolding answerOf bytesOf
+unfolding linedAnswer bytesOf
 unlined-out r room out e = record { answers = refl; holds = e }
 
 -- The line in the area, w wide, and the line that it stands for.
-module _ (h : Header) (w : ℕ) (area : List ℕ) (line : Figure) (reached : Reached h w area line) (room : ℕ) where
-  abbrev held : Figure
-  held = scratchLine (modeOf h .direction) w area
+module _ (y : Mode) (h w : ℕ) (area : List ℕ) (line : Block) (reached : Reached y h maxLineWidth w area line) (room : ℕ) where
+  abbrev held : Block
+  held = scratchLine (y .direction) w area
 
-  both-wide : maxLineWidth < w → outputOf (h .height) held room ≡ outputOf (h .height) line room
-  both-wide l = sym (too-wide 0 (h .height) held room l) ∙ too-wide 0 (h .height) line room (reached .beyond l)
+  both-wide : maxLineWidth < w → outputOf h held room ≡ outputOf h line room
+  both-wide l = sym (too-wide 0 h held room l) ∙ too-wide 0 h line room (reached .beyond l)
 
-  same-output : outputOf (h .height) held room ≡ outputOf (h .height) line room
+  same-output : outputOf h held room ≡ outputOf h line room
   same-output =
       elim (decLt maxLineWidth w) [
         | yes l ↦ both-wide l
-        | no l ↦ output-like (h .height) held line (reached .within (omega arith)) room
+        | no l ↦ output-like h held line (reached .within (omega arith)) room
       ]
 
-  same-bytes : (hardblank : ℕ) → padded (outputBytes hardblank (h .height) held room) room ≡ padded (outputBytes hardblank (h .height) line room) room
+  same-bytes : (hardblank : ℕ) → padded (outputBytes hardblank h held room) room ≡ padded (outputBytes hardblank h line room) room
   same-bytes hardblank =
       elim (decLt maxLineWidth w) [
         | yes l ↦
-            sym (no-bytes hardblank (h .height) held room (refusal lineTooWide 0) (too-wide 0 (h .height) held room l)) ∙
-            no-bytes hardblank (h .height) line room (refusal lineTooWide 0) (too-wide 0 (h .height) line room (reached .beyond l))
-        | no l ↦ ap (λ (b : List ℕ). padded b room) (bytes-like (h .height) held line (reached .within (omega arith)) hardblank room)
+            sym (no-bytes hardblank h held room (refusal lineTooWide 0) (too-wide 0 h held room l)) ∙
+            no-bytes hardblank h line room (refusal lineTooWide 0) (too-wide 0 h line room (reached .beyond l))
+        | no l ↦ ap (λ (b : List ℕ). padded b room) (bytes-like h held line (reached .within (omega arith)) hardblank room)
       ]
 
-  pub lined-out : (y : Mode) → y ≡ modeOf h → (a : DrawAnswer) (out : List ℕ) → a ≡ outputOf (h .height) (scratchLine (y .direction) w area) room →
-      out ≡ padded (outputBytes (y .hardblank .0) (h .height) (scratchLine (y .direction) w area) room) room → PutOut (lined h line) room a out
-  unfolding answerOf bytesOf modeOf
-  lined-out y p a out e b =
-      record {
-        answers = e ∙ ap (λ (z : Mode). outputOf (h .height) (scratchLine (z .direction) w area) room) p ∙ same-output;
-        holds = b ∙ ap (λ (z : Mode). padded (outputBytes (z .hardblank .0) (h .height) (scratchLine (z .direction) w area) room) room) p ∙ same-bytes (h .hardblank .0);
-      }
+  pub lined-out : (a : DrawAnswer) (out : List ℕ) → a ≡ outputOf h held room → out ≡ padded (outputBytes (y .hardblank .0) h held room) room → PutOut (lined y h line) room a out
+  unfolding linedAnswer bytesOf
+  lined-out a out e b = record { answers = e ∙ same-output; holds = b ∙ same-bytes (y .hardblank .0) }
 
 -- A text, by a font and a control file that are read.
 module _ (s control text : List ℕ) (h : Header) (es : List Entry) (cs : List Command) (k : ℕ) (font-said : font.reading s ≡ font.says h es) (control-said : flc.control control ≡ flc.reads cs k) where
-  read-lined : linedOf s control text ≡ cond (ltb maxText (length text)) (unlined (refusal textTooLong 0)) (lined h (lineOf s h es cs k text))
+  read-lined : linedOf s control text ≡ cond (ltb maxText (length text)) (unlined (refusal textTooLong 0)) (lined (modeOf h) (h .height) (fontLine s h es cs k text))
   unfolding linedOf
-  read-lined = ap (λ (f : font.Reading). linedBy s f (flc.control control) text) font-said ∙ ap (λ (c : flc.Reading). linedBy s (font.says h es) c text) control-said
+  read-lined = ap (λ (f : font.FontReading). linedBy s f (flc.control control) text) font-said ∙ ap (λ (c : flc.ControlReading). linedBy s (font.says h es) c text) control-said
+
+  by-length : (b : Bool) → ltb maxText (length text) ≡ b → linedOf s control text ≡ cond b (unlined (refusal textTooLong 0)) (lined (modeOf h) (h .height) (fontLine s h es cs k text))
+  by-length b e = read-lined ∙ ap (λ (x : Bool). cond x (unlined (refusal textTooLong 0)) (lined (modeOf h) (h .height) (fontLine s h es cs k text))) e
 
   -- 15: "text too long"
   pub text-long : maxText < length text → linedOf s control text ≡ unlined (refusal textTooLong 0)
-  text-long l = read-lined ∙ ap (λ (b : Bool). cond b (unlined (refusal textTooLong 0)) (lined h (lineOf s h es cs k text))) (lt-ltb maxText (length text) l)
+  text-long l = by-length true (lt-ltb maxText (length text) l)
 
-  pub text-lined : length text ≤ maxText → linedOf s control text ≡ lined h (lineOf s h es cs k text)
-  text-lined l = read-lined ∙ ap (λ (b : Bool). cond b (unlined (refusal textTooLong 0)) (lined h (lineOf s h es cs k text))) (le-ltb maxText (length text) l)
+  pub text-lined : length text ≤ maxText → linedOf s control text ≡ lined (modeOf h) (h .height) (fontLine s h es cs k text)
+  text-lined l = by-length false (le-ltb maxText (length text) l)

@@ -2,98 +2,86 @@
 -- Assumes nothing.
 use mathlib.Core.Path.{_≡_, refl, sym, ap, _∙_, subst}
 use Prim.Native.Nat.{ℕ, _+_, _≤_, _<_}
-use mathlib.Core.List.{List, [], map}
+use mathlib.Core.List.{List, []}
 use native.Mathlib.Omega.{arith}
 use native.Mathlib.Numerals.{add-one}
 use lib.IntN.{pos}
 use lib.ListN.{length, drop, getD, drop-of-length-le}
 use lib.Seq.{drop-cons}
-use Rattle.ground.specs.Limits.{maxLineWidth}
 use Rattle.subchars.specs.declared.Code.{Code}
-use Rattle.join.specs.Join.{Figure}
+use Rattle.subchars.specs.declared.Mode.{Mode}
+use Rattle.join.specs.Join.{Block}
 use Rattle.join.proofs.Likeness.{like-trans}
 use Rattle.join.specs.Writing.{Like}
 use Rattle.figure.specs.Line.{empty, lineFrom}
 use Rattle.figure.specs.Scratch.{scratchLine}
 use Rattle.figure.proofs.Folding.{from-like, grows}
-use Rattle.header.specs.declared.Header.{Header}
-use Rattle.chars.specs.declared.Entry.{Entry}
 use Rattle.chars.specs.Codes.{code}
-use Rattle.reader.specs.declared.Use.{Use}
-use Rattle.reader.specs.declared.Use.the-variants.{Used, Nothing}
-use Rattle.reader.specs.Reader.{used}
+use Rattle.source.specs.Source.{Choice, found, stoodIn, nothing, Source}
 use Rattle.flc.specs.declared.Command.{Command}
 use Rattle.flc.specs.Mapping.{mapStages}
-use Rattle.drawing.specs.Drawing.{codesOf, mappedCodes, withUsed, drawnEntries, modeOf, characterOf, joinedInTurn, entriesDrawn, lineOf}
+use Rattle.drawing.specs.Drawing.{codesOf, mappedCodes, textCodes, withChoice, charactersOf, lineOf}
 use Rattle.drawing.specs.Steps.{withCharacter, Reached}
 
-module _ (s : List ℕ) (h : Header) (es : List Entry) where
-  -- the line l with all that is still to be drawn
-  abbrev with-rest : Figure → List Entry → Figure
-  with-rest l rest = lineFrom (modeOf h) (h .height) l (map (characterOf s) rest)
-
-  one-more : (u : Use) (rest : List Entry) (l : Figure) → with-rest l (withUsed u rest) ≡ with-rest (withCharacter h s u l) rest
+module _ (y : Mode) (h : ℕ) (source : Source) where
+  one-more : (x : Choice) (rest : List Block) (l : Block) → lineFrom y h l (withChoice x rest) ≡ lineFrom y h (withCharacter y h x l) rest
   unfolding lineFrom
-  one-more (Used e) rest l = refl
-  one-more Nothing rest l = refl
+  one-more (found c) rest l = refl
+  one-more (stoodIn c) rest l = refl
+  one-more nothing rest l = refl
 
   module _ (cs : List Command) (k : ℕ) (text : List ℕ) where
+    abbrev whole : Block
+    whole = lineOf y h source (textCodes cs k text)
+
+    -- what the text draws from its i-th byte on
+    abbrev rest-from : ℕ → List Block
+    rest-from i = charactersOf source (textCodes cs k (drop i text))
+
     -- the line n wide in the area, with what the text has from its i-th byte on, is the line of the text
     abbrev pub Toward : List ℕ → ℕ → ℕ → Type 0
-    Toward area n i = Like (h .height) (with-rest (scratchLine (modeOf h .direction) n area) (entriesDrawn es cs k (drop i text))) (lineOf s h es cs k text)
+    Toward area n i = Like h (lineFrom y h (scratchLine (y .direction) n area) (rest-from i)) whole
 
     pub toward-first : (area : List ℕ) → Toward area 0 0
-    unfolding lineOf joinedInTurn
-    toward-first area =
-        from-like (modeOf h) (h .height) (scratchLine (modeOf h .direction) 0 area) empty (map (characterOf s) (entriesDrawn es cs k text))
-        (record { width = refl; cells = λ r j u v. absurd (omega arith) })
+    unfolding lineOf
+    toward-first area = from-like y h (scratchLine (y .direction) 0 area) empty (rest-from 0) (record { width = refl; cells = λ r j u v. absurd (omega arith) })
 
     -- one byte more
-    abbrev used-at : ℕ → Use
-    used-at i = used (mapStages cs 0 k (code (pos (getD text i 0)))) es
+    choice-at : ℕ → Choice
+    choice-at i = source (mapStages cs 0 k (code (pos (getD text i 0))))
 
-    entries-next : (i : ℕ) → i < length text → entriesDrawn es cs k (drop i text) ≡ withUsed (used-at i) (entriesDrawn es cs k (drop (i + 1) text))
-    unfolding codesOf mappedCodes drawnEntries
-    entries-next i u = ap (entriesDrawn es cs k) (drop-cons text i 0 u) ∙ ap (λ (j : ℕ). withUsed (used-at i) (entriesDrawn es cs k (drop j text))) (sym (add-one i))
+    rest-next : (i : ℕ) → i < length text → rest-from i ≡ withChoice (choice-at i) (rest-from (i + 1))
+    unfolding codesOf mappedCodes charactersOf choice-at
+    rest-next i u = ap (λ (t : List ℕ). charactersOf source (textCodes cs k t)) (drop-cons text i 0 u) ∙ ap (λ (j : ℕ). withChoice (choice-at i) (rest-from j)) (sym (add-one i))
 
-    module _ (area : List ℕ) (n i : ℕ) (toward : Toward area n i) where
-      abbrev line : Figure
-      line = scratchLine (modeOf h .direction) n area
+    module _ (limit : ℕ) (area : List ℕ) (n i : ℕ) (toward : Toward area n i) where
+      abbrev line : Block
+      line = scratchLine (y .direction) n area
 
-      pub toward-end : length text ≤ i → n ≤ maxLineWidth → Reached h n area (lineOf s h es cs k text)
-      unfolding codesOf mappedCodes drawnEntries lineFrom
+      pub toward-end : length text ≤ i → n ≤ limit → Reached y h limit n area whole
+      unfolding codesOf mappedCodes charactersOf lineFrom
       toward-end u v =
           let e : drop i text ≡ [] = drop-of-length-le text u in
           record {
-            within = λ w. subst (λ (t : List ℕ). Like (h .height) (with-rest line (entriesDrawn es cs k t)) (lineOf s h es cs k text)) e toward;
+            within = λ w. subst (λ (t : List ℕ). Like h (lineFrom y h line (charactersOf source (textCodes cs k t))) whole) e toward;
             beyond = λ w. absurd (omega arith);
           }
 
       module _ (u : i < length text) (c : Code) (is : c ≡ mapStages cs 0 k (code (pos (getD text i 0)))) where
-        rest : List Entry
-        rest = entriesDrawn es cs k (drop (i + 1) text)
-
-        stepped : Figure
-        stepped = withCharacter h s (used c es) line
-
-        step : Like (h .height) (with-rest stepped rest) (lineOf s h es cs k text)
-        unfolding rest stepped
+        step : Like h (lineFrom y h (withCharacter y h (source c) line) (rest-from (i + 1))) whole
+        unfolding choice-at
         step =
-            subst (λ (x : Figure). Like (h .height) x (lineOf s h es cs k text))
-            (ap (with-rest line) (entries-next i u ∙ ap (λ (z : Code). withUsed (used z es) (entriesDrawn es cs k (drop (i + 1) text))) (sym is)) ∙ one-more (used c es) (entriesDrawn es cs k (drop (i + 1) text)) line)
+            subst (λ (x : Block). Like h x whole)
+            (ap (lineFrom y h line) (rest-next i u ∙ ap (λ (z : Code). withChoice (source z) (rest-from (i + 1))) (sym is)) ∙ one-more (source c) (rest-from (i + 1)) line)
             toward
 
-        pub toward-next : (area′ : List ℕ) (m : ℕ) → Reached h m area′ (withCharacter h s (used c es) line) → m ≤ maxLineWidth → Toward area′ m (i + 1)
-        unfolding rest stepped
-        toward-next area′ m x v =
-            like-trans (h .height) _ _ _
-            (from-like (modeOf h) (h .height) (scratchLine (modeOf h .direction) m area′) stepped (map (characterOf s) rest) (x .within v))
-            step
+        module _ (area′ : List ℕ) (m : ℕ) (x : Reached y h limit m area′ (withCharacter y h (source c) line)) where
+          pub toward-next : m ≤ limit → Toward area′ m (i + 1)
+          toward-next v = like-trans h _ _ _ (from-like y h (scratchLine (y .direction) m area′) (withCharacter y h (source c) line) (rest-from (i + 1)) (x .within v)) step
 
-        pub toward-beyond : (area′ : List ℕ) (m : ℕ) → Reached h m area′ (withCharacter h s (used c es) line) → maxLineWidth < m → Reached h m area′ (lineOf s h es cs k text)
-        unfolding rest stepped
-        toward-beyond area′ m x v =
-            record {
-              within = λ w. absurd (omega arith);
-              beyond = λ w. omega (arith, x .beyond v, grows (modeOf h) (h .height) stepped (map (characterOf s) rest), step .width);
-            }
+          pub toward-beyond : limit < m → Reached y h limit m area′ whole
+          toward-beyond v =
+              record {
+                within = λ w. absurd (omega arith);
+                beyond = λ w. omega (arith, x .beyond v, grows y h (withCharacter y h (source c) line) (rest-from (i + 1)), step .width);
+              }

@@ -4,34 +4,15 @@ use mathlib.Core.Path.{_≡_}
 use Prim.Native.Nat.{ℕ}
 use mathlib.Core.List.{List}
 use lib.IntN.{ℤ}
-use lib.ListN.{length, take}
-use Rattle.header.specs.declared.Header.{Header}
-use Rattle.chars.specs.declared.Entry.{Entry}
-use Rattle.font.specs.Font.{says, refuses, reading}
-use Rattle.index.specs.Index.{Room, Lists}
-use Rattle.index.specs.Latest.{Latest}
 use Rattle.reader.specs.declared.FontAnswer.{FontAnswer}
 use Rattle.reader.specs.declared.FontAnswer.the-variants as step
 use Rattle.flc.specs.declared.ControlAnswer.{ControlAnswer}
 use Rattle.flc.specs.declared.ControlAnswer.the-variants as answer
 use Rattle.flc.specs.Passing.{ControlHeld}
+use Rattle.source.specs.Held.{FontHeld}
 use Rattle.drawing.specs.declared.Files.{Files}
 use Rattle.drawing.specs.declared.Files.the-variants.{Read, Refused}
 use Rattle.drawing.specs.Drawing.{unlined, linedOf}
-
--- A font was read: its header, its n characters in three lists, and the last place of each code below 256.
-pub record FontHeld (s : List ℕ) (h : Header) (n : ℕ) (codes : List ℤ) (starts widths places : List ℕ) : Type 0 where
-  pub characters : List Entry
-  pub said : reading s ≡ says h characters
-  pub count : n ≡ length characters
-  pub long : Room n codes starts widths
-  pub lists : Lists characters codes starts widths
-  pub latest : Latest (take n codes) places
-
--- What reading it answered, and the lists.
-abbrev pub FontHeldBy : List ℕ → FontAnswer → List ℤ → List ℕ → List ℕ → List ℕ → Type 0
-FontHeldBy s (step.Read h n) codes starts widths places = FontHeld s h n codes starts widths places
-FontHeldBy s (step.Refused r) codes starts widths places = reading s ≡ refuses r
 
 -- "The font's, the control file's": what both answers come to.
 abbrev pub filesOf : FontAnswer → ControlAnswer → Files

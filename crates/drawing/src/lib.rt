@@ -1,5 +1,4 @@
 // Drawing a line of text from a font and a control file that were read once.
-use chars::Entry;
 pub use figure::DrawAnswer;
 use flc::ControlAnswer;
 use flc::mapping;
@@ -9,33 +8,31 @@ use ground::refusals::Refusal;
 use header::Given;
 use header::Header;
 use index::latest;
-use lines::Cursor;
-use lines::LineStep;
 use reader::FontAnswer;
-use reader::Use;
+use source::Chosen;
 use subchars::Code;
 use subchars::Direction;
 use subchars::Mode;
 ghost use mathlib.Core.Path.{_≡_};
-ghost use mathlib.Core.Bool.{true};
 ghost use mathlib.Core.List.{List};
-ghost use Prim.Native.Nat.{ℕ, _+_, _<_, _≤_};
+ghost use Prim.Native.Nat.{ℕ, _≤_};
 ghost use lib.IntN.{pos};
 ghost use lib.ListN.{length};
+ghost use Rattle.ground.specs.Area.{zeros};
 ghost use Rattle.ground.specs.Limits.{maxLineWidth, maxHeight, maxCharacters, maxCommands, minScratch};
-ghost use Rattle.lines.specs.Lines.{lineEnd, nextStart, after};
 ghost use Rattle.chars.specs.Codes.{code};
-ghost use Rattle.font.specs.Font.{reading};
-ghost use Rattle.index.specs.Index.{Room};
-ghost use Rattle.reader.specs.Reader.{entriesOf, used};
-ghost use Rattle.join.specs.Join.{Figure};
+ghost use Rattle.index.specs.Index.{CharacterRoom};
+ghost use Rattle.index.specs.Latest.{smallCodes};
+ghost use Rattle.join.specs.Join.{Block};
 ghost use Rattle.join.specs.Writing.{RowAfterRow};
 ghost use Rattle.figure.specs.Scratch.{scratchLine};
 ghost use Rattle.flc.specs.Passing.{ControlHeld};
-ghost use Rattle.flc.specs.Filling.{Room as CommandRoom};
-ghost use Rattle.drawing.specs.Drawing.{directionOf, modeOf, lineOf, Lined, linedOf, PutOut};
-ghost use Rattle.drawing.specs.Held.{FontHeld, FontHeldBy, filesOf, FilesHeld};
-ghost use Rattle.drawing.specs.Steps.{Standing, RowPlaces, withCharacter, Reached};
+ghost use Rattle.flc.specs.Filling.{CommandRoom};
+ghost use Rattle.source.specs.Source.{Source};
+ghost use Rattle.source.specs.Held.{FontHeld, Gives};
+ghost use Rattle.drawing.specs.Drawing.{directionOf, modeOf, textCodes, lineOf, Lined, linedOf, drawLined, PutOut};
+ghost use Rattle.drawing.specs.Held.{filesOf, FilesHeld};
+ghost use Rattle.drawing.specs.Steps.{withCharacter, Reached};
 
 // What reading both files gave: the font's header and how many characters and commands the lists hold; or the refusal of one of the files.
 pub enum Files {
@@ -72,84 +69,44 @@ fn mode_of(header: Header) -> Mode
     }
 }
 
-// Whether an LF stands directly behind a byte of a line: so most rows of a font end, by one endmark.
-fn one_mark(font: &[u8], at: usize) -> bool
-    requires { ⌜ at < lineEnd (now font) at ⌝ }
-    ensures { λ b. ⌜ (b ≡ true → nextStart (now (font .entry)) at ≡ at + 2) ⌝ }
-{
-    if font.len() <= at + 1 {
-        return false;
-    }
-    font[at + 1] == b'\n'
-}
-
-// Where the line behind a byte of a line starts.
-fn next_place(font: &[u8], at: usize) -> usize
-    requires { ⌜ at < lineEnd (now font) at ⌝ }
-    ensures { λ r. ⌜ r ≡ nextStart (now (font .entry)) at ⌝ }
-{
-    if one_mark(font, at) {
-        return at + 2;
-    }
-    let cursor = Cursor { at };
-    match cursor.next(font) {
-        LineStep::Line {
-            start: _,
-            end: _,
-            next,
-        } => next.at,
-        LineStep::NoLine => at,
-    }
-}
-
-// Where the rows of a FIGcharacter start. A row's own bytes are passed over: only the endmarks behind them are looked at.
-fn find_rows(font: &[u8], start: usize, width: usize, h: usize, rows: &mut [usize])
-    requires { ⌜ (0 < h) × (h ≤ length (now rows)) ⌝ }
-    requires { ⌜ Standing (now font) start width h ⌝ }
-    requires { ⌜ ((r : ℕ) → r < h → after r (now font) start + width < lineEnd (now font) (after r (now font) start)) ⌝ }
-    ensures { λ _. ⌜ RowPlaces (now (font .entry)) start h (now (rows .exit)) ⌝ }
-{
-    rows[0] = start;
-    let mut last: usize = 0;
-    let mut at = start;
-    while last + 1 < h {
-        at = next_place(font, at + width);
-        last += 1;
-        rows[last] = at;
-    }
-}
-
-// Joins the FIGcharacter that is used for a code to the line, n wide, in the area; answers the new width. Its rows are found in a lent list.
+// Joins the character that is drawn for a code to the line, n wide, in the area; answers the new width. Its rows are found in a lent list.
 fn draw_code(
     area: &mut [u8],
     found: &mut [usize],
     rows: &[usize],
     n: usize,
+    limit: usize,
     code: Code,
-    font: &[u8],
-    header: Header,
     mode: Mode,
+    height: usize,
+    font: &[u8],
     count: usize,
     codes: &[i32],
     starts: &[usize],
     widths: &[usize],
     places: &[usize],
 ) -> usize
-    requires { ⌜ FontHeld (now font) header count (now codes) (now starts) (now widths) (now places) ⌝ }
-    requires { ⌜ mode ≡ modeOf header ⌝ }
-    requires { ⌜ (n ≤ maxLineWidth) × (minScratch ≤ length (now area)) × (maxHeight ≤ length (now found)) ⌝ }
-    requires { ⌜ RowAfterRow maxLineWidth (header .height) (now rows) ⌝ }
-    ensures { λ w. ⌜ Reached header w (now (area .exit)) (withCharacter header (now (font .entry)) (used code (entriesOf (reading (now (font .entry))))) (scratchLine (modeOf header .direction) n (now (area .entry)))) ⌝ }
+    requires { ⌜ ((source : Source) × Gives source (now font) height count (now codes) (now starts) (now widths) (now places)) ⌝ }
+    requires { ⌜ (n ≤ limit) × (limit ≤ maxLineWidth) × (minScratch ≤ length (now area)) × (maxHeight ≤ length (now found)) ⌝ }
+    requires { ⌜ RowAfterRow maxLineWidth height (now rows) ⌝ }
+    ensures { λ w. ⌜ ((source : Source) → Gives source (now (font .entry)) height count (now (codes .entry)) (now (starts .entry)) (now (widths .entry)) (now (places .entry)) → Reached mode height limit w (now (area .exit)) (withCharacter mode height (source code) (scratchLine (mode .direction) n (now (area .entry))))) ⌝ }
 {
-    match reader::find_known(codes, starts, widths, count, places, code) {
-        Use::Used(entry) => {
-            let start = entry.start;
-            let width = entry.width;
-            let height = header.height;
-            find_rows(font, start, width, height, found);
-            figure::attach(area, rows, n, mode, font, found, width, height)
+    match source::choose(
+        code,
+        font,
+        height,
+        count,
+        codes,
+        starts,
+        widths,
+        places,
+        found,
+    ) {
+        Chosen::Character(width) => {
+            let attached = figure::attach(area, rows, n, limit, mode, font, found, width, height);
+            attached.width
         }
-        Use::Nothing => n,
+        Chosen::Nothing => n,
     }
 }
 
@@ -160,13 +117,14 @@ fn code_of(byte: u8) -> Code
     Code(byte as i32)
 }
 
-// Joins the FIGcharacters of a text in turn, from an empty line on; answers the line's width. It stops where that passes 1,000.
+// Joins the characters of a text in turn, from an empty line on; answers the line's width. It stops where that passes the limit.
 fn join_text(
     area: &mut [u8],
     text: &[u8],
-    font: &[u8],
-    header: Header,
+    limit: usize,
     mode: Mode,
+    height: usize,
+    font: &[u8],
     count: usize,
     codes: &[i32],
     starts: &[usize],
@@ -178,13 +136,12 @@ fn join_text(
     lasts: &[i32],
     news: &[i32],
 ) -> usize
-    requires { ⌜ FontHeld (now font) header count (now codes) (now starts) (now widths) (now places) ⌝ }
+    requires { ⌜ ((source : Source) × Gives source (now font) height count (now codes) (now starts) (now widths) (now places)) ⌝ }
     requires { ⌜ ((control : List ℕ) × ControlHeld control commands (now stages) (now firsts) (now lasts) (now news)) ⌝ }
-    requires { ⌜ mode ≡ modeOf header ⌝ }
-    requires { ⌜ minScratch ≤ length (now area) ⌝ }
-    ensures { λ w. ⌜ ((control : List ℕ) (held : ControlHeld control commands (now (stages .entry)) (now (firsts .entry)) (now (lasts .entry)) (now (news .entry))) → Reached header w (now (area .exit)) (lineOf (now (font .entry)) header (entriesOf (reading (now (font .entry)))) (held .commands) (held .count) (now (text .entry)))) ⌝ }
+    requires { ⌜ (limit ≤ maxLineWidth) × (minScratch ≤ length (now area)) ⌝ }
+    ensures { λ w. ⌜ ((source : Source) (given : Gives source (now (font .entry)) height count (now (codes .entry)) (now (starts .entry)) (now (widths .entry)) (now (places .entry))) (control : List ℕ) (held : ControlHeld control commands (now (stages .entry)) (now (firsts .entry)) (now (lasts .entry)) (now (news .entry))) → Reached mode height limit w (now (area .exit)) (lineOf mode height source (textCodes (held .commands) (held .count) (now (text .entry))))) ⌝ }
 {
-    let rows = join::row_starts(limits::MAX_LINE_WIDTH, header.height);
+    let rows = join::row_starts(limits::MAX_LINE_WIDTH, height);
     let mut found = [0usize; limits::MAX_HEIGHT];
     let mut n: usize = 0;
     let mut i: usize = 0;
@@ -196,17 +153,18 @@ fn join_text(
             &mut found,
             &rows,
             n,
+            limit,
             code,
-            font,
-            header,
             mode,
+            height,
+            font,
             count,
             codes,
             starts,
             widths,
             places,
         );
-        if limits::MAX_LINE_WIDTH < n {
+        if limit < n {
             return n;
         }
         i += 1;
@@ -215,7 +173,7 @@ fn join_text(
 }
 
 // A refusal, with zeros all through the output.
-pub fn refuse(r: Refusal, out: &mut [u8]) -> DrawAnswer
+fn refuse(r: Refusal, out: &mut [u8]) -> DrawAnswer
     ensures { λ a. ⌜ PutOut (Lined.unlined r) (length (now (out .entry))) a (now (out .exit)) ⌝ }
 {
     ground::zero_from(out, 0);
@@ -223,12 +181,11 @@ pub fn refuse(r: Refusal, out: &mut [u8]) -> DrawAnswer
 }
 
 // Puts out the line w wide that the area holds.
-fn put_out(out: &mut [u8], area: &[u8], header: Header, mode: Mode, w: usize) -> DrawAnswer
-    requires { ⌜ (header .height ≤ maxHeight) × (minScratch ≤ length (now area)) ⌝ }
-    requires { ⌜ mode ≡ modeOf header ⌝ }
-    ensures { λ a. ⌜ ((line : Figure) → Reached header w (now (area .entry)) line → PutOut (Lined.lined header line) (length (now (out .entry))) a (now (out .exit))) ⌝ }
+fn put_out(out: &mut [u8], area: &[u8], mode: Mode, height: usize, w: usize) -> DrawAnswer
+    requires { ⌜ (height ≤ maxHeight) × (minScratch ≤ length (now area)) ⌝ }
+    ensures { λ a. ⌜ ((line : Block) → Reached mode height maxLineWidth w (now (area .entry)) line → PutOut (Lined.lined mode height line) (length (now (out .entry))) a (now (out .exit))) ⌝ }
 {
-    figure::put_out(out, area, mode, w, header.height)
+    figure::put_out(out, area, mode, w, height)
 }
 
 // Draws a text by a font and a control file that were read: 15, 16, then 9 for the output.
@@ -264,12 +221,14 @@ fn draw_text(
         );
     }
     let mode = mode_of(header);
+    let height = header.height;
     let w = join_text(
         area,
         text,
-        font,
-        header,
+        limits::MAX_LINE_WIDTH,
         mode,
+        height,
+        font,
         count,
         codes,
         starts,
@@ -281,7 +240,7 @@ fn draw_text(
         lasts,
         news,
     );
-    put_out(out, area, header, mode, w)
+    put_out(out, area, mode, height, w)
 }
 
 // Draws a text by what reading the files gave; the lists hold it. Nothing is promised of what the area then holds.
@@ -330,27 +289,6 @@ pub fn draw_line(
     }
 }
 
-// Reads a font into the lists, with the last place of each code below 256.
-fn read_font(
-    font: &[u8],
-    codes: &mut [i32],
-    starts: &mut [usize],
-    widths: &mut [usize],
-    places: &mut [usize],
-) -> FontAnswer
-    requires { ⌜ Room maxCharacters (now codes) (now starts) (now widths) ⌝ }
-    requires { ⌜ length (now places) ≡ 256 ⌝ }
-    ensures { λ r. ⌜ FontHeldBy (now (font .entry)) r (now (codes .exit)) (now (starts .exit)) (now (widths .exit)) (now (places .exit)) ⌝ }
-{
-    match reader::read_lists(font, codes, starts, widths) {
-        FontAnswer::Read { header, count } => {
-            latest::find_latest(&codes[..count], places);
-            FontAnswer::Read { header, count }
-        }
-        FontAnswer::Refused(r) => FontAnswer::Refused(r),
-    }
-}
-
 // Both answers as one; the font's refusal comes first.
 fn files_of(font: FontAnswer, control: ControlAnswer) -> Files
     ensures { λ r. ⌜ r ≡ filesOf font control ⌝ }
@@ -384,18 +322,18 @@ pub fn read_files(
     lasts: &mut [i32],
     news: &mut [i32],
 ) -> Files
-    requires { ⌜ Room maxCharacters (now codes) (now starts) (now widths) ⌝ }
-    requires { ⌜ length (now places) ≡ 256 ⌝ }
+    requires { ⌜ CharacterRoom maxCharacters (now codes) (now starts) (now widths) ⌝ }
+    requires { ⌜ length (now places) ≡ smallCodes ⌝ }
     requires { ⌜ CommandRoom maxCommands (now stages) (now firsts) (now lasts) (now news) ⌝ }
     ensures { λ r. ⌜ FilesHeld (now (font .entry)) (now (control .entry)) r (now (codes .exit)) (now (starts .exit)) (now (widths .exit)) (now (places .exit)) (now (stages .exit)) (now (firsts .exit)) (now (lasts .exit)) (now (news .exit)) ⌝ }
 {
-    let f = read_font(font, codes, starts, widths, places);
+    let f = source::read_font(font, codes, starts, widths, places);
     let c = flc::read_lists(control, stages, firsts, lasts, news);
     files_of(f, c)
 }
 
 // Reads both files and draws one text.
-pub fn draw_once(
+fn draw_once(
     out: &mut [u8],
     area: &mut [u8],
     text: &[u8],
@@ -408,7 +346,7 @@ pub fn draw_once(
     let mut codes = [0i32; limits::MAX_CHARACTERS];
     let mut starts = [0usize; limits::MAX_CHARACTERS];
     let mut widths = [0usize; limits::MAX_CHARACTERS];
-    let mut places = [0usize; 256];
+    let mut places = [0usize; latest::SMALL_CODES];
     let mut stages = [0usize; limits::MAX_COMMANDS];
     let mut firsts = [0i32; limits::MAX_COMMANDS];
     let mut lasts = [0i32; limits::MAX_COMMANDS];
@@ -440,4 +378,43 @@ pub fn draw_once(
         &lasts,
         &news,
     )
+}
+
+// 9 for a scratch under 32,000 bytes; otherwise the drawing, which leaves anything in the scratch.
+fn draw_tested(
+    out: &mut [u8],
+    scratch: &mut [u8],
+    text: &[u8],
+    font: &[u8],
+    control: &[u8],
+) -> DrawAnswer
+    ensures { λ a. ⌜ PutOut (drawLined (length (now (scratch .entry))) (now (font .entry)) (now (control .entry)) (now (text .entry))) (length (now (out .entry))) a (now (out .exit)) ⌝ }
+{
+    if scratch.len() < limits::MIN_SCRATCH {
+        return refuse(
+            Refusal {
+                number: refusals::AREA_TOO_SMALL,
+                place: 0,
+            },
+            out,
+        );
+    }
+    draw_once(out, scratch, text, font, control)
+}
+
+// Draws a text by a font and a control file: 9 for the scratch, the font's, the control file's, 15, 16, then 9 for the output. The scratch is all zeros
+// afterwards.
+pub fn draw(
+    font: &[u8],
+    control: &[u8],
+    text: &[u8],
+    scratch: &mut [u8],
+    out: &mut [u8],
+) -> DrawAnswer
+    ensures { λ a. ⌜ PutOut (drawLined (length (now (scratch .entry))) (now (font .entry)) (now (control .entry)) (now (text .entry))) (length (now (out .entry))) a (now (out .exit)) ⌝ }
+    ensures { λ a. ⌜ now (scratch .exit) ≡ zeros (length (now (scratch .entry))) ⌝ }
+{
+    let answer = draw_tested(out, scratch, text, font, control);
+    ground::zero_from(scratch, 0);
+    answer
 }

@@ -17,7 +17,7 @@ use Rattle.chars.specs.Codes.{code, sameNumber, sameCode}
 use Rattle.index.specs.declared.Found.{Found}
 use Rattle.index.specs.declared.Found.the-variants.{At, Nowhere}
 use Rattle.index.specs.Index.{codeOf}
-use Rattle.index.specs.LookUp.{lastAt, orElse, lookUp}
+use Rattle.index.specs.LookUp.{lastAt, orStandIn, lookUp}
 use Rattle.index.proofs.FindLaws.{last-next, at-last, nowhere-none, NoneHas}
 use Rattle.reader.specs.declared.Use.{Use}
 use Rattle.reader.specs.declared.Use.the-variants.{Used, Nothing}
@@ -54,9 +54,9 @@ module _ (c : Code) (es : List Entry) (i : ℕ) (small : i < length es) where
   firsts n f = atFound f (take n es)
 
   abbrev found : Bool → Bool → Found → Found → Found
-  found own zeroed a b = orElse (cond own (At i) a) (cond zeroed (At i) b)
+  found own zeroed a b = orStandIn (cond own (At i) a) (cond zeroed (At i) b)
 
-  used-is : (n : ℕ) → used c (take n es) ≡ firsts n (orElse (lastAt (c .0) (take n codes)) (lastAt (pos 0) (take n codes)))
+  used-is : (n : ℕ) → used c (take n es) ≡ firsts n (orStandIn (lastAt (c .0) (take n codes)) (lastAt (pos 0) (take n codes)))
   unfolding used lookUp
   used-is n = ap (λ (l : List ℤ). firsts n (lookUp c l)) (map-take n es)
 
@@ -88,7 +88,7 @@ module _ (c : Code) (es : List Entry) (i : ℕ) (small : i < length es) where
   not-own Nowhere p n = refl
 
   step : (own zeroed : Bool) (a b : Found) → lastAt (c .0) (take i codes) ≡ a → lastAt (pos 0) (take i codes) ≡ b →
-      firsts (suc i) (found own zeroed a b) ≡ cond own (Used e) (cond (hasCode (firsts i (orElse a b)) c) (firsts i (orElse a b)) (cond zeroed (Used e) (firsts i (orElse a b))))
+      firsts (suc i) (found own zeroed a b) ≡ cond own (Used e) (cond (hasCode (firsts i (orStandIn a b)) c) (firsts i (orStandIn a b)) (cond zeroed (Used e) (firsts i (orStandIn a b))))
   step true zeroed a b p q = here
   step false zeroed (At k) b p q =
       let h = inside (c .0) k p in
@@ -107,7 +107,7 @@ module _ (c : Code) (es : List Entry) (i : ℕ) (small : i < length es) where
   pub used-next : better c (used c (take i es)) e ≡ used c (take (suc i) es)
   unfolding better
   used-next = sym (
-      used-is (suc i) ∙ (λ j. firsts (suc i) (orElse (last-step (c .0) j) (last-step (pos 0) j))) ∙
+      used-is (suc i) ∙ (λ j. firsts (suc i) (orStandIn (last-step (c .0) j) (last-step (pos 0) j))) ∙
       step (sameNumber (e .code .0) (c .0)) (sameNumber (e .code .0) (pos 0)) (lastAt (c .0) (take i codes)) (lastAt (pos 0) (take i codes)) refl refl ∙
       ap (λ (u : Use). cond (sameNumber (e .code .0) (c .0)) (Used e) (cond (hasCode u c) u (cond (sameNumber (e .code .0) (pos 0)) (Used e) u))) (sym (used-is i)))
 

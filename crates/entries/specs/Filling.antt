@@ -12,13 +12,13 @@ use Rattle.header.specs.declared.Header.{Header}
 use Rattle.chars.specs.declared.Entry.{Entry}
 use Rattle.chars.specs.Codes.{code}
 use Rattle.chars.specs.Chars.{entry}
-use Rattle.font.specs.Font.{Reading, refuses, reading}
+use Rattle.font.specs.Font.{FontReading, refuses, reading}
 use Rattle.reader.specs.declared.FontAnswer.{FontAnswer}
 use Rattle.reader.specs.declared.FontAnswer.the-variants.{Read, Refused}
-use Rattle.reader.specs.Reader.{answerOf, entriesOf}
+use Rattle.reader.specs.Reader.{fontAnswer, entriesOf}
 
 -- "Reading a font: 9 (index under 512 entries), 1, 2, ..": a font, read into an index of so many entries.
-unfoldable pub fontReading : ℕ → List ℕ → Reading
+unfoldable pub fontReading : ℕ → List ℕ → FontReading
 fontReading room s = cond (ltb room maxCharacters) (refuses (refusal areaTooSmall 0)) (reading s)
 
 -- An entry of zeros.
@@ -30,7 +30,7 @@ abbrev pub withZeros : List Entry → ℕ → List Entry
 withZeros es room = es ++ replicate (room - length es) zeroEntry
 
 -- What the index holds: the entries "in file order". A refused font has none: "it fills every lent writable area with zeros."
-unfoldable pub indexOf : Reading → ℕ → List Entry
+unfoldable pub indexOf : FontReading → ℕ → List Entry
 indexOf m room = withZeros (entriesOf m) room
 
 -- The header that an answer tells, with the layout in it; a refusal tells none.
@@ -50,5 +50,5 @@ abbrev pub fontTells : FontAnswer → FontTold
 fontTells (Read h n) = record { refused = false; number = 0; place = 0; header = told h; count = n }
 fontTells (Refused r) = record { refused = true; number = r .number; place = r .place; header = untold; count = 0 }
 
-abbrev pub fontTold : Reading → FontTold
-fontTold m = fontTells (answerOf m)
+abbrev pub fontTold : FontReading → FontTold
+fontTold m = fontTells (fontAnswer m)

@@ -12,34 +12,31 @@ ghost use lib.ListN.{length};
 ghost use Rattle.ground.specs.Limits.{maxCharacters};
 ghost use Rattle.chars.specs.declared.Entry.{Entry};
 ghost use Rattle.font.specs.Font.{refuses};
-ghost use Rattle.index.specs.Index.{Room, Lists};
+ghost use Rattle.index.specs.Index.{CharacterRoom, Lists};
 ghost use Rattle.entries.specs.Filling.{fontReading, withZeros};
-ghost use Rattle.entries.specs.Steps.{listedOf};
+ghost use Rattle.entries.specs.Steps.{arrayLength, listedOf};
 
-// The last place of the array. No font has a character there: its zeros stand for all that lie behind.
+// The last place of the array, and its length. No font has a character at the last place: the zeros there stand for all that lie behind.
 pub const LAST: usize = limits::MAX_CHARACTERS;
 
-const ZEROS: [Entry; LAST + 1] = [Entry {
+const LENGTH: usize = LAST + 1;
+
+const ZEROS: [Entry; LENGTH] = [Entry {
     code: Code(0),
     start: 0,
     width: 0,
-}; LAST + 1];
+}; LENGTH];
 
 // What reading a font answers, and its characters.
 pub struct Listed {
     pub answer: FontAnswer,
-    pub entries: [Entry; LAST + 1],
+    pub entries: [Entry; LENGTH],
 }
 
 // The entries that the lists begin with.
-fn list_entries(
-    codes: &[i32],
-    starts: &[usize],
-    widths: &[usize],
-    count: usize,
-) -> [Entry; LAST + 1]
-    requires { ⌜ Room count (now codes) (now starts) (now widths) × count ≤ maxCharacters ⌝ }
-    ensures { λ r. ⌜ ((es : List Entry) → count ≡ length es → Lists es (now (codes .entry)) (now (starts .entry)) (now (widths .entry)) → r ≡ withZeros es 513) ⌝ }
+fn list_entries(codes: &[i32], starts: &[usize], widths: &[usize], count: usize) -> [Entry; LENGTH]
+    requires { ⌜ CharacterRoom count (now codes) (now starts) (now widths) × count ≤ maxCharacters ⌝ }
+    ensures { λ r. ⌜ ((es : List Entry) → count ≡ length es → Lists es (now (codes .entry)) (now (starts .entry)) (now (widths .entry)) → r ≡ withZeros es arrayLength) ⌝ }
 {
     let mut entries = ZEROS;
     let mut i: usize = 0;

@@ -16,7 +16,7 @@ fn has_code(used: Use, code: Code) -> bool
     chars::same_code(c, code)
 }
 
-// The entry used, where one entry more is seen: it is if it has the code, or has code 0 and none before had the code itself.
+// The entry used after one more is seen: that one, if it has the code, or if it has code 0 and none before it had the code itself.
 pub fn better(used: Use, e: Entry, code: Code) -> Use
     ensures { λ r. ⌜ r ≡ better code used e ⌝ }
 {

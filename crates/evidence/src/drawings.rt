@@ -12,12 +12,12 @@ ghost use Prim.Native.Nat.{_≤_};
 // The arrays of which a scratch and an output are lent.
 const MOST_SCRATCH: usize = 32001;
 
-const MOST_ROOM: usize = 1100;
+pub(crate) const MOST_ROOM: usize = 1100;
 
-// A byte of an output as it is printed: LF as `|`, and zero as `.`.
+// A byte of an output as it is printed: LF as `;`, and zero as `.`.
 fn printable(x: u8) -> u8 {
     if x == b'\n' {
-        return b'|';
+        return b';';
     }
     if x == b'\0' {
         return b'.';
@@ -26,7 +26,7 @@ fn printable(x: u8) -> u8 {
 }
 
 // Prints all of an output.
-fn show_output(out: &mut [u8]) {
+pub(crate) fn show_output(out: &mut [u8]) {
     let mut i: usize = 0;
     while i < out.len() {
         out[i] = printable(out[i]);
@@ -68,7 +68,7 @@ fn used_scratch() -> [u8; MOST_SCRATCH] {
     [9u8; MOST_SCRATCH]
 }
 
-fn used_output() -> [u8; MOST_ROOM] {
+pub(crate) fn used_output() -> [u8; MOST_ROOM] {
     [9u8; MOST_ROOM]
 }
 
@@ -88,8 +88,8 @@ fn draw(font: &[u8], control: &[u8], t: &[u8], size: usize, room: usize)
     draw_in(font, control, t, &mut scratch[..size], &mut out[..room]);
 }
 
-// What stands behind the blank that is behind a word.
-fn past_blank(t: &[u8]) -> &[u8] {
+// What stands behind the first byte.
+pub(crate) fn past_byte(t: &[u8]) -> &[u8] {
     if 0 < t.len() {
         return &t[1..];
     }
@@ -104,5 +104,5 @@ pub(crate) fn show_drawing(font: &[u8], words: &[u8]) {
     let third = behind(second);
     let size = ground::smaller(row_of(word_of(second)), MOST_SCRATCH);
     let room = ground::smaller(row_of(word_of(third)), MOST_ROOM);
-    draw(font, &buffer[..n], past_blank(behind(third)), size, room);
+    draw(font, &buffer[..n], past_byte(behind(third)), size, room);
 }

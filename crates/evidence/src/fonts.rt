@@ -1,16 +1,19 @@
 // What is printed about a font: what it says, the character that is used for a code, and a row.
 use crate::asking::code_of;
 use crate::asking::row_of;
+use crate::indexes::ask;
 use crate::printing::named;
 use crate::printing::number;
 use crate::printing::refused;
 use crate::printing::signed;
 use crate::printing::text;
+use ground::limits;
 use header::Given;
 use header::Header;
-use reader::FontAnswer;
+use subchars::Code;
 use subchars::Layout;
 use subchars::Smushing;
+use wattleslate::FontAnswer;
 use wattleslate::LookUpAnswer;
 use wattleslate::RowRefusal;
 
@@ -59,12 +62,11 @@ fn says(count: usize, h: Header) {
     layout(y);
 }
 
-// What a font says.
+// What a font says, read into an index of 512 entries.
 pub(crate) fn show_font(font: &[u8]) {
-    let mut codes = [0i32; 512];
-    let mut starts = [0usize; 512];
-    let mut widths = [0usize; 512];
-    match reader::read_lists(font, &mut codes, &mut starts, &mut widths) {
+    let a = ask(font, limits::MAX_CHARACTERS, 0, Code(0), 0);
+    let answer = a.answer;
+    match answer {
         FontAnswer::Read { header, count } => says(count, header),
         FontAnswer::Refused(r) => refused(r.number, r.place),
     }
@@ -96,8 +98,10 @@ pub(crate) fn show_row(font: &[u8], word: &[u8], row: &[u8]) {
     text(row);
     text(b": ");
     match wattleslate::row_refusal(font, code_of(word), row_of(row)) {
-        RowRefusal::NotRefused => {
-            text(b"`");
+        RowRefusal::NotRefused { place, width } => {
+            named(b"at ", place);
+            named(b", width ", width);
+            text(b", `");
             text(wattleslate::row(font, code_of(word), row_of(row)));
             text(b"`");
         }

@@ -18,10 +18,10 @@ ghost use Prim.Native.Nat.{_<_, _≤_};
 const MOST: usize = 600;
 
 // What the two calls answer, and the entry that was asked for.
-struct Asked {
-    answer: FontAnswer,
-    used: Use,
-    entry: Entry,
+pub(crate) struct Asked {
+    pub(crate) answer: FontAnswer,
+    pub(crate) used: Use,
+    pub(crate) entry: Entry,
 }
 
 // Entries that hold something before a font is read into them.
@@ -34,7 +34,7 @@ fn nines() -> [Entry; MOST] {
 }
 
 // Reads a font into an index of some size, and looks a code up among so many of its entries; then the array's entry at a place.
-fn ask(font: &[u8], size: usize, count: usize, code: Code, place: usize) -> Asked
+pub(crate) fn ask(font: &[u8], size: usize, count: usize, code: Code, place: usize) -> Asked
     requires { ⌜ (size ≤ 600) × (place < 600) ⌝ }
 {
     let mut entries = nines();

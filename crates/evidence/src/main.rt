@@ -4,6 +4,7 @@ mod controls;
 mod drawings;
 mod fonts;
 mod indexes;
+mod joins;
 mod printing;
 
 use asking::behind;
@@ -71,6 +72,15 @@ fn about_drawing(line: &[u8], font: &[u8]) {
     }
 }
 
+// A request for a join; the answer begins with the request, of which 64 bytes are shown.
+fn about_join(line: &[u8]) {
+    if words::starts_with(line, b"join ") {
+        text(shortened(line));
+        text(b": ");
+        joins::show_join(behind(line));
+    }
+}
+
 // One request: a word, a file's name, and for some a code and a row.
 fn request(line: &[u8]) {
     let mut buffer = [0u8; 65537];
@@ -78,6 +88,7 @@ fn request(line: &[u8]) {
     about_font(line, &buffer[..n]);
     about_control(line, &buffer[..n]);
     about_drawing(line, &buffer[..n]);
+    about_join(line);
     text(b"\n");
 }
 
@@ -99,7 +110,7 @@ fn requests(t: &[u8]) {
 }
 
 fn main() {
-    let mut buffer = [0u8; 16384];
+    let mut buffer = [0u8; 20480];
     let n = io::read_full(STDIN_FILENO, &mut buffer);
     requests(&buffer[..n]);
 }

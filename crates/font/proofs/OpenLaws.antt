@@ -3,35 +3,36 @@
 use mathlib.Core.Path.{_≡_, refl, sym, ap, _∙_}
 use mathlib.Core.Bool.{Bool, true, false, cond}
 use mathlib.Core.List.{List}
-use Prim.Native.Nat.{ℕ, suc, _-_, _≤_, _<_}
+use Prim.Native.Nat.{ℕ, _-_, _≤_, _<_}
 use native.Mathlib.Omega.{arith}
-use lib.Dec.{ltb, leb, leb·suc-suc}
+use lib.Dec.{ltb, leb}
 use lib.ListN.{length, drop, take}
 use borrow.Author.Tests.{lt-ltb, le-ltb, ltb-true, ltb-false, le-leb, lt-leb}
 use Rattle.ground.specs.Refusals.{refusal, fontTooLong, noSignature, missingLine}
 use Rattle.ground.specs.Limits.{maxFontLength}
 use Rattle.lines.specs.declared.Cursor.{Cursor}
-use Rattle.lines.specs.Lines.{TextLine, linesFrom, textAt, nextStart, after}
+use Rattle.lines.specs.declared.Skipped.{Skipped}
+use Rattle.lines.specs.Lines.{TextLine, linesFrom, textAt, nextStart, cursor, after, skipped}
 use Rattle.lines.proofs.LineLaws.{lines-none, lines-next, after-lines, LineFound, line-part}
+use Rattle.header.specs.declared.Header.{Header}
 use Rattle.header.specs.declared.HeaderStep.{HeaderStep}
 use Rattle.header.specs.declared.HeaderStep.the-variants.{Good, Refused}
 use Rattle.header.specs.Header.{readHeader}
 use Rattle.chars.specs.Codes.{requiredCodes}
 use Rattle.chars.specs.Chars.{listing}
-use Rattle.font.specs.declared.SkipStep.the-variants.{Skipped, TooFew}
 use Rattle.font.specs.declared.Opening.{Opening}
-use Rattle.font.specs.declared.Opening.the-variants.{Closed}
+use Rattle.font.specs.declared.Opening.the-variants.{Open, Closed}
 use Rattle.font.specs.Font.{refuses, format, withCharacters, afterHeader, onLines, reading}
-use Rattle.font.specs.Steps.{skipAt, commentsThen, pastComments, openBy, firstLine, openAt, readFrom}
+use Rattle.font.specs.Steps.{pastComments, openBy, firstLine, openAt, readFrom}
 
 header-reads : (x : HeaderStep) (s : List ℕ) (at : ℕ) → afterHeader x (length s) (linesFrom s at) ≡ readFrom s (openBy x s at)
-unfolding pastComments skipAt
+unfolding pastComments
 header-reads (Refused r) s at = refl
 header-reads (Good h) s at = go (leb (h .«comment_lines») (length (linesFrom s at)))
   where
     go : (b : Bool) →
         cond b (withCharacters h (listing (format h) (length s) requiredCodes 0 (drop (h .«comment_lines») (linesFrom s at)))) (refuses (refusal missingLine (length s))) ≡
-        readFrom s (commentsThen h (length s) (cond b (Skipped (after (h .«comment_lines») s at)) TooFew))
+        readFrom s (cond b (Open h (cursor (after (h .«comment_lines») s at))) (Closed (refusal missingLine (length s))))
     go true = ap (λ (ls : List TextLine). withCharacters h (listing (format h) (length s) requiredCodes 0 ls)) (sym (after-lines (h .«comment_lines») s at))
     go false = refl
 
@@ -52,26 +53,18 @@ open-reads s = go (ltb maxFontLength (length s))
     go true = refl
     go false = first-reads s
 
--- Lines passed over, one by one.
-module _ (s : List ℕ) (at k : ℕ) where
-  pub skip-all : k ≡ 0 → Skipped at ≡ skipAt s at k
-  unfolding skipAt after
-  skip-all e = sym (ap (skipAt s at) e ∙ simp (le-leb 0 (length (linesFrom s at)) (omega arith)))
-
-  pub skip-short : 0 < k → length s ≤ at → TooFew ≡ skipAt s at k
-  unfolding skipAt
-  skip-short h l = simp (lt-leb k (length (linesFrom s at)) (omega (arith, ap length (lines-none s at l))))
-
-  pub skip-more : 0 < k → at < length s → skipAt s at k ≡ skipAt s (nextStart s at) (k - 1)
-  unfolding skipAt after
-  skip-more h l =
-      let e : k ≡ suc (k - 1) = omega arith in
-      let m = length (linesFrom s (nextStart s at)) in
-      ap (skipAt s at) e ∙
-      ap (λ (b : Bool). cond b (Skipped (after (k - 1) s (nextStart s at))) TooFew)
-      (ap (λ (j : ℕ). leb (suc (k - 1)) j) (ap length (lines-next s at l)) ∙ leb·suc-suc (k - 1) m)
-
 -- The steps of the code, by cases.
+module _ (h : Header) (s : List ℕ) (at : ℕ) (k : Skipped) (e : k ≡ skipped (h .«comment_lines») s at) where
+  pub comments-missing : 0 < k .missing → Closed (refusal missingLine (length s)) ≡ pastComments h s at
+  unfolding pastComments skipped
+  comments-missing l = simp (lt-leb (h .«comment_lines») (length (linesFrom s at)) (omega (arith, ap (λ (x : Skipped). x .missing) e)))
+
+  pub comments-passed : k .missing ≤ 0 → Open h (k .next) ≡ pastComments h s at
+  unfolding pastComments skipped
+  comments-passed l =
+      simp (le-leb (h .«comment_lines») (length (linesFrom s at)) (omega (arith, ap (λ (x : Skipped). x .missing) e)))
+      (ap (λ (x : Skipped). Open h (x .next)) e)
+
 pub open-line : (s : List ℕ) (start end : ℕ) (c : Cursor) (l : LineFound s 0 start end c) (x : HeaderStep) → x ≡ readHeader (take (end - start) (drop start s)) → openBy x s (c .at) ≡ firstLine s
 unfolding firstLine
 open-line s start end c l x p =

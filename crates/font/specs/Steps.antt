@@ -7,30 +7,21 @@ use lib.Dec.{ltb, leb}
 use lib.ListN.{length}
 use Rattle.ground.specs.Refusals.{refusal, fontTooLong, noSignature, missingLine}
 use Rattle.ground.specs.Limits.{maxFontLength}
-use Rattle.lines.specs.Lines.{linesFrom, textAt, nextStart, after}
+use Rattle.lines.specs.Lines.{linesFrom, textAt, nextStart, cursor, after}
 use Rattle.header.specs.declared.Header.{Header}
 use Rattle.header.specs.declared.HeaderStep.{HeaderStep}
 use Rattle.header.specs.declared.HeaderStep.the-variants.{Good, Refused}
 use Rattle.header.specs.Header.{readHeader}
 use Rattle.chars.specs.Codes.{requiredCodes}
 use Rattle.chars.specs.Chars.{listing}
-use Rattle.font.specs.declared.SkipStep.{SkipStep}
-use Rattle.font.specs.declared.SkipStep.the-variants.{Skipped, TooFew}
 use Rattle.font.specs.declared.Opening.{Opening}
 use Rattle.font.specs.declared.Opening.the-variants.{Open, Closed}
-use Rattle.font.specs.Font.{Reading, refuses, format, withCharacters}
+use Rattle.font.specs.Font.{FontReading, refuses, format, withCharacters}
 
--- n lines further.
-unfoldable pub skipAt : List ℕ → ℕ → ℕ → SkipStep
-skipAt s at n = cond (leb n (length (linesFrom s at))) (Skipped (after n s at)) TooFew
-
--- The header, and the place behind the comment lines.
-abbrev pub commentsThen : Header → ℕ → SkipStep → Opening
-commentsThen h size (Skipped at) = Open h at
-commentsThen h size TooFew = Closed (refusal missingLine size)
-
+-- The header, and the cursor behind the comment lines.
 unfoldable pub pastComments : Header → List ℕ → ℕ → Opening
-pastComments h s at = commentsThen h (length s) (skipAt s at (h .«comment_lines»))
+pastComments h s at =
+    cond (leb (h .«comment_lines») (length (linesFrom s at))) (Open h (cursor (after (h .«comment_lines») s at))) (Closed (refusal missingLine (length s)))
 
 abbrev pub openBy : HeaderStep → List ℕ → ℕ → Opening
 openBy (Good h) s at = pastComments h s at
@@ -43,6 +34,6 @@ unfoldable pub openAt : List ℕ → Opening
 openAt s = cond (ltb maxFontLength (length s)) (Closed (refusal fontTooLong 0)) (firstLine s)
 
 -- What is read from where the characters start.
-abbrev pub readFrom : List ℕ → Opening → Reading
-readFrom s (Open h at) = withCharacters h (listing (format h) (length s) requiredCodes 0 (linesFrom s at))
+abbrev pub readFrom : List ℕ → Opening → FontReading
+readFrom s (Open h next) = withCharacters h (listing (format h) (length s) requiredCodes 0 (linesFrom s (next .at)))
 readFrom s (Closed r) = refuses r

@@ -7,72 +7,39 @@ use header::HeaderStep;
 use lines::Cursor;
 use lines::LineStep;
 ghost use mathlib.Core.Path.{_≡_};
-ghost use Rattle.font.specs.Steps.{skipAt, pastComments, firstLine, openAt};
+ghost use Rattle.font.specs.Steps.{pastComments, firstLine, openAt};
 
-// A place some lines further.
-pub enum SkipStep {
-    Skipped(usize),
-    TooFew,
-}
-
-// A font's header and where its characters start, or its refusal.
+// A font's header and the cursor where its characters start, or its refusal.
 pub enum Opening {
-    Open { header: Header, at: usize },
+    Open { header: Header, next: Cursor },
     Closed(Refusal),
 }
 
-// As many lines further as `count` says.
-fn skip_lines(s: &[u8], from: usize, count: usize) -> SkipStep
-    ensures { λ r. ⌜ r ≡ skipAt (now (s .entry)) from count ⌝ }
+// Past the comment lines, which start at a cursor.
+fn past_comments(h: Header, font: &[u8], cursor: Cursor) -> Opening
+    ensures { λ r. ⌜ r ≡ pastComments h (now (font .entry)) (cursor .at) ⌝ }
 {
-    let mut at = from;
-    let mut left = count;
-    while 0 < left {
-        let cursor = Cursor { at };
-        match cursor.next(s) {
-            LineStep::Line {
-                start: _,
-                end: _,
-                next,
-            } => {
-                at = next.at;
-            }
-            LineStep::NoLine => {
-                return SkipStep::TooFew;
-            }
-        }
-        left -= 1;
-    }
-    SkipStep::Skipped(at)
-}
-
-// Past the comment lines, which start at a place.
-fn past_comments(h: Header, font: &[u8], at: usize) -> Opening
-    ensures { λ r. ⌜ r ≡ pastComments h (now (font .entry)) at ⌝ }
-{
-    let count = h.comment_lines;
-    match skip_lines(font, at, count) {
-        SkipStep::Skipped(k) => Opening::Open { header: h, at: k },
-        SkipStep::TooFew => Opening::Closed(Refusal {
+    let skipped = cursor.skip(font, h.comment_lines);
+    if 0 < skipped.missing {
+        return Opening::Closed(Refusal {
             number: refusals::MISSING_LINE,
             place: font.len(),
-        }),
+        });
     }
+    let next = skipped.next;
+    Opening::Open { header: h, next }
 }
 
 // The header line and the comment lines. A font without a line does not begin with flf2a.
 fn first_line(font: &[u8]) -> Opening
     ensures { λ r. ⌜ r ≡ firstLine (now (font .entry)) ⌝ }
 {
-    let cursor = Cursor { at: 0 };
+    let cursor = Cursor::new();
     match cursor.next(font) {
-        LineStep::Line { start, end, next } => {
-            let n = next.at;
-            match header::read_header(&font[start..end]) {
-                HeaderStep::Good(h) => past_comments(h, font, n),
-                HeaderStep::Refused(r) => Opening::Closed(r),
-            }
-        }
+        LineStep::Line { start, end, next } => match header::read_header(&font[start..end]) {
+            HeaderStep::Good(h) => past_comments(h, font, next),
+            HeaderStep::Refused(r) => Opening::Closed(r),
+        },
         LineStep::NoLine => Opening::Closed(Refusal {
             number: refusals::NO_SIGNATURE,
             place: 0,

@@ -13,20 +13,20 @@ use Rattle.ground.proofs.Runs.{rest-is}
 use Rattle.subchars.specs.declared.SubCharacter.{SubCharacter}
 use Rattle.lines.specs.Words.{isBlank}
 use Rattle.header.specs.declared.HeaderStep.{HeaderStep}
-use Rattle.subchars.specs.Pair.{isHardblank}
-use Rattle.header.specs.Header.{parameterNumbers, refused, headerOf, afterHardblank, afterSignature, signature, readHeader}
+use Rattle.subchars.specs.Pair.{legalHardblank}
+use Rattle.header.specs.Header.{parameterNumbers, refused, headerOf, afterHardblank, afterSignature, fontSignature, readHeader}
 
 abbrev subCharacter : ℕ → SubCharacter
 subCharacter h = record { 0 = h }
 
 -- By places, as the code looks at the line.
 module _ (t : List ℕ) where
-  pub no-signature : begins signature t ≡ false → refused noSignature ≡ readHeader t
+  pub no-signature : begins fontSignature t ≡ false → refused noSignature ≡ readHeader t
   unfolding readHeader
   no-signature e = simp e
 
-  module _ (e : begins signature t ≡ true) where
-    signed : readHeader t ≡ afterSignature (drop 5 t)
+  module _ (e : begins fontSignature t ≡ true) where
+    pub signed : readHeader t ≡ afterSignature (drop 5 t)
     unfolding readHeader
     signed = simp e
 
@@ -34,14 +34,14 @@ module _ (t : List ℕ) where
     unfolding afterSignature
     no-hardblank h = sym (signed ∙ ap afterSignature (drop-of-length-le t h))
 
-    at-hardblank : 5 < length t → readHeader t ≡ cond (isHardblank (getD t 5 0)) (afterHardblank (subCharacter (getD t 5 0)) (drop 6 t)) (refused badHardblank)
+    at-hardblank : 5 < length t → readHeader t ≡ cond (legalHardblank (getD t 5 0)) (afterHardblank (subCharacter (getD t 5 0)) (drop 6 t)) (refused badHardblank)
     unfolding afterSignature
     at-hardblank h = signed ∙ ap afterSignature (drop-cons t 5 0 h)
 
-    pub not-hardblank : 5 < length t → isHardblank (getD t 5 0) ≡ false → refused badHardblank ≡ readHeader t
+    pub not-hardblank : 5 < length t → legalHardblank (getD t 5 0) ≡ false → refused badHardblank ≡ readHeader t
     not-hardblank h b = sym (at-hardblank h ∙ simp b)
 
-    module _ (h : 5 < length t) (b : isHardblank (getD t 5 0) ≡ true) where
+    module _ (h : 5 < length t) (b : legalHardblank (getD t 5 0) ≡ true) where
       after : readHeader t ≡ afterHardblank (subCharacter (getD t 5 0)) (drop 6 t)
       after = at-hardblank h ∙ simp b
 

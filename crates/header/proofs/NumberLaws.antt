@@ -32,17 +32,17 @@ word-none (Value y) k e = clash (cc)
 word-none NotNumber k e = refl
 
 -- The loop's invariant: n numbers are held, and the others stand from `at` on.
-pub record Held (t : List ℕ) (values : List ℤ) (n at : ℕ) : Type 0 where
+pub record ParametersHeld (t : List ℕ) (values : List ℤ) (n at : ℕ) : Type 0 where
   pub few : n ≤ maxParameters
   pub inside : at ≤ length t
   pub room : length values ≡ maxParameters
   pub all : parameterNumbers t ≡ take n values ++ numbers (maxParameters - n) (drop at t)
 
-pub held-none : (t : List ℕ) (values : List ℤ) → length values ≡ maxParameters → Held t values 0 0
+pub held-none : (t : List ℕ) (values : List ℤ) → length values ≡ maxParameters → ParametersHeld t values 0 0
 unfolding parameterNumbers
 held-none t values e = record { few = omega arith; inside = omega arith; room = e; all = refl }
 
-module _ (t : List ℕ) (values : List ℤ) (n at : ℕ) (h : Held t values n at) where
+module _ (t : List ℕ) (values : List ℤ) (n at : ℕ) (h : ParametersHeld t values n at) where
   -- a number more
   all-more : (z : ℤ) (next : ℕ) → n < maxParameters → headerNumber (firstWord (drop at t)) ≡ Value z → next ≡ at + wordEnd (drop at t) →
       parameterNumbers t ≡ take (n + 1) (set values n z) ++ numbers (maxParameters - (n + 1)) (drop next t)
@@ -60,7 +60,7 @@ module _ (t : List ℕ) (values : List ℤ) (n at : ℕ) (h : Held t values n at
       sym (append-assoc (take n values) (z ∷ []) (numbers m (drop next t))) ∙
       ap (λ (l : List ℤ). l ++ numbers m (drop next t)) (sym (ap (λ (j : ℕ). take j (set values n z)) (add-one n) ∙ take-suc-set values n z k))
 
-  pub held-more : (z : ℤ) (next : ℕ) → n < maxParameters → Word z next ≡ wordStep t at → Held t (set values n z) (n + 1) next
+  pub held-more : (z : ℤ) (next : ℕ) → n < maxParameters → Word z next ≡ wordStep t at → ParametersHeld t (set values n z) (n + 1) next
   unfolding wordStep
   held-more z next l w =
       let f = word-found (headerNumber (firstWord (drop at t))) (at + wordEnd (drop at t)) z next (sym w) in

@@ -19,7 +19,7 @@ use Rattle.header.specs.declared.Parameters.{Parameters}
 use Rattle.header.specs.declared.ParameterStep.{ParameterStep}
 use Rattle.header.specs.declared.ParameterStep.the-variants.{All, TooFew}
 use Rattle.ground.specs.Limits.{maxHeight, maxLength, maxRules, maxCommentLines, maxFullLayout, maxDirection}
-use Rattle.header.specs.Header.{parameter, parameters, minOldLayout, within, allowed, legal}
+use Rattle.header.specs.Header.{parameter, parameters, minOldLayout, within, allowed, legalParameters}
 use Rattle.header.specs.Steps.{notNegative}
 
 -- One number of the first n.
@@ -130,17 +130,17 @@ pub record Sizes (p : Parameters) : Type 0 where
   pub tags : T (notNegative (p .«codetag_count»))
 
 -- The ranges of legal parameters, one after the other.
-ranges : (p : Parameters) → legal p ≡ true →
+ranges : (p : Parameters) → legalParameters p ≡ true →
     Every (within (pos 1) (pos maxHeight) (p .height)) (within (pos 1) (p .height) (p .baseline)) (within (pos 1) (pos maxLength) (p .«max_length»))
     (within minOldLayout (pos maxRules) (p .«old_layout»)) (within (pos 0) (pos maxCommentLines) (p .«comment_lines»)) (allowed (pos maxDirection) (p .«print_direction»))
     (allowed (pos maxFullLayout) (p .«full_layout»)) (allowed highest (p .«codetag_count»))
-unfolding legal
+unfolding legalParameters
 ranges p e =
     every (within (pos 1) (pos maxHeight) (p .height)) (within (pos 1) (p .height) (p .baseline)) (within (pos 1) (pos maxLength) (p .«max_length»))
     (within minOldLayout (pos maxRules) (p .«old_layout»)) (within (pos 0) (pos maxCommentLines) (p .«comment_lines»)) (allowed (pos maxDirection) (p .«print_direction»))
     (allowed (pos maxFullLayout) (p .«full_layout»)) (allowed highest (p .«codetag_count»)) e
 
-pub sizes : (p : Parameters) → legal p ≡ true → Sizes p
+pub sizes : (p : Parameters) → legalParameters p ≡ true → Sizes p
 sizes p e =
     let s = ranges p e in
     record {
@@ -157,7 +157,7 @@ sizes p e =
 abbrev pub High : ℕ → Type 0
 High n = (1 ≤ n) × (n ≤ maxHeight)
 
-pub high : (p : Parameters) → legal p ≡ true → High (natAbs (p .height))
+pub high : (p : Parameters) → legalParameters p ≡ true → High (natAbs (p .height))
 unfolding within
 high p e = by (p .height) (ranges p e .t0)
   where

@@ -9,7 +9,7 @@ use native.Mathlib.Omega.{arith}
 use lib.IntN.{ℤ}
 use lib.ListN.{length, drop}
 use Rattle.ground.specs.Runs.{begins}
-use Rattle.ground.specs.Refusals.{noSignature, badHardblank, badParameters}
+use Rattle.ground.specs.Refusals.{refusal, noSignature, badHardblank, badParameters}
 use Rattle.ground.specs.declared.refusals.Refusal.{Refusal}
 use Rattle.ground.proofs.Tests.{clash}
 use Rattle.subchars.specs.declared.SubCharacter.{SubCharacter}
@@ -20,30 +20,22 @@ use Rattle.header.specs.declared.ParameterStep.the-variants.{All, TooFew
 use Rattle.header.specs.declared.Header.{Header}
 use Rattle.header.specs.declared.HeaderStep.{HeaderStep}
 use Rattle.header.specs.declared.HeaderStep.the-variants.{Good, Refused}
-use Rattle.subchars.specs.Pair.{isHardblank}
-use Rattle.header.specs.Header.{parameterNumbers, parameters, legal, header, refused, headerWith, headerOf, afterHardblank, afterSignature, signature, readHeader}
+use Rattle.subchars.specs.Pair.{legalHardblank}
+use Rattle.header.specs.Header.{parameterNumbers, parameters, legalParameters, header, refused, headerWith, headerOf, afterHardblank, afterSignature, fontSignature, readHeader}
+use Rattle.header.proofs.LineLaws.{no-signature, signed}
 use Rattle.header.proofs.ParameterLaws.{too-few, High, high}
 
 -- 3: "hardblank absent, or blank, CR, LF, NUL", of what follows flf2a.
 pub data BadHardblank : List ℕ → Type 0 where
   absent : BadHardblank []
-  unfit : {h : ℕ} {rest : List ℕ} → isHardblank h ≡ false → BadHardblank (h ∷ rest)
+  unfit : {h : ℕ} {rest : List ℕ} → legalHardblank h ≡ false → BadHardblank (h ∷ rest)
 
 -- 4: "no blank or tab after the hardblank, under five numbers, or a value out of range", of what follows the hardblank.
 pub data BadParameters : List ℕ → Type 0 where
   no-more : BadParameters []
   no-blank : {x : ℕ} {rest : List ℕ} → isBlank x ≡ false → BadParameters (x ∷ rest)
   under-five : {x : ℕ} {rest : List ℕ} → isBlank x ≡ true → length (parameterNumbers rest) < 5 → BadParameters (x ∷ rest)
-  out-of-range : {x : ℕ} {rest : List ℕ} (p : Parameters) → isBlank x ≡ true → parameters (parameterNumbers rest) ≡ All p → legal p ≡ false → BadParameters (x ∷ rest)
-
--- The number of an answer, 0 for a header that is read.
-numberOf : HeaderStep → ℕ
-numberOf (Good x) = 0
-numberOf (Refused r) = r .number
-
-placeOf : HeaderStep → ℕ
-placeOf (Good x) = 0
-placeOf (Refused r) = r .place
+  out-of-range : {x : ℕ} {rest : List ℕ} (p : Parameters) → isBlank x ≡ true → parameters (parameterNumbers rest) ≡ All p → legalParameters p ≡ false → BadParameters (x ∷ rest)
 
 -- What an answer to what follows the hardblank is for.
 data After (rest : List ℕ) (r : HeaderStep) : Type 0 where
@@ -64,12 +56,12 @@ unfolding afterHardblank headerOf header
 after-is h [] = bad no-more refl
 after-is h (x ∷ rest) = at-blank (isBlank x) refl
   where
-    in-range : (p : Parameters) → isBlank x ≡ true → parameters (parameterNumbers rest) ≡ All p → (l : Bool) → legal p ≡ l → After (x ∷ rest) (cond l (Good (header h p)) (refused badParameters))
+    in-range : (p : Parameters) → isBlank x ≡ true → parameters (parameterNumbers rest) ≡ All p → (l : Bool) → legalParameters p ≡ l → After (x ∷ rest) (cond l (Good (header h p)) (refused badParameters))
     in-range p e q true l = fine (header h p) refl (high p l)
     in-range p e q false l = bad (out-of-range p e q l) refl
 
     named : isBlank x ≡ true → (s : ParameterStep) → parameters (parameterNumbers rest) ≡ s → After (x ∷ rest) (headerWith h s)
-    named e (All p) q = in-range p e q (legal p) refl
+    named e (All p) q = in-range p e q (legalParameters p) refl
     named e TooFew q = bad (under-five e (few-numbers (parameterNumbers rest) q)) refl
 
     at-blank : (b : Bool) → isBlank x ≡ b → After (x ∷ rest) (cond b (headerWith h (parameters (parameterNumbers rest))) (refused badParameters))
@@ -86,14 +78,14 @@ bad-parameters h (x ∷ rest) (out-of-range p e q l) = simp e (ap (headerWith h)
 -- What an answer to what follows flf2a is for.
 data Signed (u : List ℕ) (r : HeaderStep) : Type 0 where
   unblank : BadHardblank u → r ≡ refused badHardblank → Signed u r
-  blank : (h : ℕ) (rest : List ℕ) → u ≡ h ∷ rest → isHardblank h ≡ true → After rest r → Signed u r
+  blank : (h : ℕ) (rest : List ℕ) → u ≡ h ∷ rest → legalHardblank h ≡ true → After rest r → Signed u r
 
 signed-is : (u : List ℕ) → Signed u (afterSignature u)
 unfolding afterSignature
 signed-is [] = unblank absent refl
-signed-is (h ∷ rest) = at-hardblank (isHardblank h) refl
+signed-is (h ∷ rest) = at-hardblank (legalHardblank h) refl
   where
-    at-hardblank : (b : Bool) → isHardblank h ≡ b → Signed (h ∷ rest) (cond b (afterHardblank (record { 0 = h }) rest) (refused badHardblank))
+    at-hardblank : (b : Bool) → legalHardblank h ≡ b → Signed (h ∷ rest) (cond b (afterHardblank (record { 0 = h }) rest) (refused badHardblank))
     at-hardblank true e = blank h rest refl e (after-is (record { 0 = h }) rest)
     at-hardblank false e = unblank (unfit e) refl
 
@@ -102,88 +94,111 @@ unfolding afterSignature
 bad-hardblank [] absent = refl
 bad-hardblank (h ∷ rest) (unfit e) = simp e
 
-good-hardblank : (u : List ℕ) (h : ℕ) (rest : List ℕ) → u ≡ h ∷ rest → isHardblank h ≡ true → BadParameters rest → afterSignature u ≡ refused badParameters
+good-hardblank : (u : List ℕ) (h : ℕ) (rest : List ℕ) → u ≡ h ∷ rest → legalHardblank h ≡ true → BadParameters rest → afterSignature u ≡ refused badParameters
 unfolding afterSignature
 good-hardblank u h rest e b p = ap afterSignature e ∙ simp b (bad-parameters (record { 0 = h }) rest p)
 
--- Answers of different numbers are different.
-differ : {X : Type 0} (r s : HeaderStep) → r ≡ s → (numberOf r ≡ numberOf s → ⊥) → X
-unfolding numberOf
-differ r s e f = absurd (f (ap numberOf e))
+-- Which refusal it is, by its number.
+unnumbered : (u : List ℕ) (x : HeaderStep) (r : Refusal) → Signed u x → x ≡ Refused r → r .number ≡ noSignature → ⊥
+unnumbered u x r (unblank b e) q n = let m : r .number ≡ badHardblank = cc in omega arith
+unnumbered u x r (blank h rest e b (fine y g t)) q n = clash (cc)
+unnumbered u x r (blank h rest e b (bad p g)) q n = let m : r .number ≡ badParameters = cc in omega arith
+
+by-hardblank : (u : List ℕ) (x : HeaderStep) (r : Refusal) → Signed u x → x ≡ Refused r → r .number ≡ badHardblank → BadHardblank u
+by-hardblank u x r (unblank b e) q n = b
+by-hardblank u x r (blank h rest e b (fine y g t)) q n = clash (cc)
+by-hardblank u x r (blank h rest e b (bad p g)) q n = let m : r .number ≡ badParameters = cc in absurd (omega arith)
+
+-- the hardblank is good, and what follows it is not
+abbrev pub Followed : List ℕ → Type 0
+Followed u = (h : ℕ) × (rest : List ℕ) × (u ≡ h ∷ rest) × (legalHardblank h ≡ true) × BadParameters rest
+
+by-parameters : (u : List ℕ) (x : HeaderStep) (r : Refusal) → Signed u x → x ≡ Refused r → r .number ≡ badParameters → Followed u
+by-parameters u x r (unblank b e) q n = let m : r .number ≡ badHardblank = cc in absurd (omega arith)
+by-parameters u x r (blank h rest e b (fine y g t)) q n = clash (cc)
+by-parameters u x r (blank h rest e b (bad p g)) q n = (h, rest, e, b, p)
 
 module _ (t : List ℕ) where
-  with-signature : begins signature t ≡ true → readHeader t ≡ afterSignature (drop 5 t)
-  unfolding readHeader
-  with-signature e = simp e
+  with-signature : begins fontSignature t ≡ true → readHeader t ≡ afterSignature (drop (length fontSignature) t)
+  with-signature e = signed t e
 
-  without-signature : begins signature t ≡ false → readHeader t ≡ refused noSignature
-  unfolding readHeader
-  without-signature e = simp e
+  without-signature : begins fontSignature t ≡ false → readHeader t ≡ refused noSignature
+  without-signature e = sym (no-signature t e)
 
-  -- what follows flf2a is no reason for 2
-  signed-not-2 : (u : List ℕ) (r : HeaderStep) → Signed u r → r ≡ refused noSignature → ⊥
-  unfolding numberOf
-  signed-not-2 u r (unblank b e) q = differ _ _ (sym e ∙ q) λ n. omega arith
-  signed-not-2 u r (blank h rest e b (fine x g t)) q = differ _ _ (sym g ∙ q) λ n. omega arith
-  signed-not-2 u r (blank h rest e b (bad p g)) q = differ _ _ (sym g ∙ q) λ n. omega arith
+  behind : Signed (drop (length fontSignature) t) (afterSignature (drop (length fontSignature) t))
+  behind = signed-is (drop (length fontSignature) t)
 
   -- 2: "first line does not begin with flf2a"
-  pub refused-2 : readHeader t ≡ refused noSignature ↔ begins signature t ≡ false
-  refused-2 = (λ q. only (begins signature t) refl q, without-signature)
+  pub refused-2 : readHeader t ≡ refused noSignature ↔ begins fontSignature t ≡ false
+  refused-2 = (λ q. only (begins fontSignature t) refl q, without-signature)
     where
-      only : (b : Bool) → begins signature t ≡ b → readHeader t ≡ refused noSignature → begins signature t ≡ false
-      only true e q = absurd (signed-not-2 (drop 5 t) (afterSignature (drop 5 t)) (signed-is (drop 5 t)) (sym (with-signature e) ∙ q))
+      only : (b : Bool) → begins fontSignature t ≡ b → readHeader t ≡ refused noSignature → begins fontSignature t ≡ false
+      only true e q = absurd (unnumbered (drop (length fontSignature) t) _ _ behind (sym (with-signature e) ∙ q) refl)
       only false e q = e
 
-  signed-3 : (u : List ℕ) (r : HeaderStep) → Signed u r → r ≡ refused badHardblank → BadHardblank u
-  unfolding numberOf
-  signed-3 u r (unblank b e) q = b
-  signed-3 u r (blank h rest e b (fine x g t)) q = differ _ _ (sym g ∙ q) λ n. omega arith
-  signed-3 u r (blank h rest e b (bad p g)) q = differ _ _ (sym g ∙ q) λ n. omega arith
+  -- a line that does not begin with flf2a has no other refusal
+  unsigned : (r : Refusal) → begins fontSignature t ≡ false → readHeader t ≡ Refused r → r .number ≡ noSignature
+  unsigned r e q = let p : refused noSignature ≡ Refused r = sym (without-signature e) ∙ q in cc
 
   -- 3, where the line begins with flf2a
-  pub refused-3 : readHeader t ≡ refused badHardblank ↔ ((begins signature t ≡ true) × BadHardblank (drop 5 t))
-  unfolding numberOf
-  refused-3 = (λ q. only (begins signature t) refl q, λ w. with-signature (w .0) ∙ bad-hardblank (drop 5 t) (w .1))
+  pub refused-3 : readHeader t ≡ refused badHardblank ↔ ((begins fontSignature t ≡ true) × BadHardblank (drop (length fontSignature) t))
+  refused-3 = (λ q. only (begins fontSignature t) refl q, λ w. with-signature (w .0) ∙ bad-hardblank (drop (length fontSignature) t) (w .1))
     where
-      only : (b : Bool) → begins signature t ≡ b → readHeader t ≡ refused badHardblank → (begins signature t ≡ true) × BadHardblank (drop 5 t)
-      only true e q = (e, signed-3 (drop 5 t) (afterSignature (drop 5 t)) (signed-is (drop 5 t)) (sym (with-signature e) ∙ q))
-      only false e q = differ _ _ (sym (without-signature e) ∙ q) λ n. omega arith
-
-  -- the hardblank is good, and what follows it is not
-  abbrev pub Followed : List ℕ → Type 0
-  Followed u = (h : ℕ) × (rest : List ℕ) × (u ≡ h ∷ rest) × (isHardblank h ≡ true) × BadParameters rest
-
-  signed-4 : (u : List ℕ) (r : HeaderStep) → Signed u r → r ≡ refused badParameters → Followed u
-  unfolding numberOf
-  signed-4 u r (unblank b e) q = differ _ _ (sym e ∙ q) λ n. omega arith
-  signed-4 u r (blank h rest e b (fine x g t)) q = differ _ _ (sym g ∙ q) λ n. omega arith
-  signed-4 u r (blank h rest e b (bad p g)) q = (h, rest, e, b, p)
+      only : (b : Bool) → begins fontSignature t ≡ b → readHeader t ≡ refused badHardblank → (begins fontSignature t ≡ true) × BadHardblank (drop (length fontSignature) t)
+      only true e q = (e, by-hardblank (drop (length fontSignature) t) _ _ behind (sym (with-signature e) ∙ q) refl)
+      only false e q = absurd (omega (arith, unsigned _ e q))
 
   -- 4, where the line begins with flf2a and a hardblank
-  pub refused-4 : readHeader t ≡ refused badParameters ↔ ((begins signature t ≡ true) × Followed (drop 5 t))
-  unfolding numberOf
+  pub refused-4 : readHeader t ≡ refused badParameters ↔ ((begins fontSignature t ≡ true) × Followed (drop (length fontSignature) t))
   refused-4 = (
-    λ q. only (begins signature t) refl q,
-    λ w. with-signature (w .0) ∙ good-hardblank (drop 5 t) (w .1 .0) (w .1 .1) (w .1 .2) (w .1 .3) (w .1 .4),
+    λ q. only (begins fontSignature t) refl q,
+    λ w. with-signature (w .0) ∙ good-hardblank (drop (length fontSignature) t) (w .1 .0) (w .1 .1) (w .1 .2) (w .1 .3) (w .1 .4),
   )
     where
-      only : (b : Bool) → begins signature t ≡ b → readHeader t ≡ refused badParameters → (begins signature t ≡ true) × Followed (drop 5 t)
-      only true e q = (e, signed-4 (drop 5 t) (afterSignature (drop 5 t)) (signed-is (drop 5 t)) (sym (with-signature e) ∙ q))
-      only false e q = differ _ _ (sym (without-signature e) ∙ q) λ n. omega arith
+      only : (b : Bool) → begins fontSignature t ≡ b → readHeader t ≡ refused badParameters → (begins fontSignature t ≡ true) × Followed (drop (length fontSignature) t)
+      only true e q = (e, by-parameters (drop (length fontSignature) t) _ _ behind (sym (with-signature e) ∙ q) refl)
+      only false e q = absurd (omega (arith, unsigned _ e q))
+
+  -- The refusals of a header line, in their order: each at place 0.
+  pub data HeaderStops : Refusal → Type 0 where
+    -- 2: "first line does not begin with flf2a"
+    signature : begins fontSignature t ≡ false → HeaderStops (refusal noSignature 0)
+    -- 3: "hardblank absent, or blank, CR, LF, NUL"
+    hardblank : begins fontSignature t ≡ true → BadHardblank (drop (length fontSignature) t) → HeaderStops (refusal badHardblank 0)
+    -- 4: "no blank or tab after the hardblank, under five numbers, or a value out of range"
+    numbers : begins fontSignature t ≡ true → Followed (drop (length fontSignature) t) → HeaderStops (refusal badParameters 0)
+
+  signed-stops : begins fontSignature t ≡ true → (x : HeaderStep) (r : Refusal) → Signed (drop (length fontSignature) t) x → x ≡ Refused r → HeaderStops r
+  signed-stops s x r (unblank b e) q = let p : refusal badHardblank 0 ≡ r = cc in subst HeaderStops p (hardblank s b)
+  signed-stops s x r (blank h rest e b (fine y g k)) q = clash (cc)
+  signed-stops s x r (blank h rest e b (bad p g)) q = let d : refusal badParameters 0 ≡ r = cc in subst HeaderStops d (numbers s (h, rest, e, b, p))
+
+  -- a header line is refused exactly so
+  pub header-exactly : (r : Refusal) → readHeader t ≡ Refused r ↔ HeaderStops r
+  header-exactly r = (λ q. only (begins fontSignature t) refl q, is r)
+    where
+      only : (b : Bool) → begins fontSignature t ≡ b → readHeader t ≡ Refused r → HeaderStops r
+      only true e q = signed-stops e (afterSignature (drop (length fontSignature) t)) r behind (sym (with-signature e) ∙ q)
+      only false e q =
+          let k : refused noSignature ≡ Refused r = sym (without-signature e) ∙ q in
+          let p : refusal noSignature 0 ≡ r = cc in
+          subst HeaderStops p (signature e)
+
+      is : (r : Refusal) → HeaderStops r → readHeader t ≡ Refused r
+      is _ (signature e) = refused-2 .1 e
+      is _ (hardblank e b) = refused-3 .1 (e, b)
+      is _ (numbers e p) = refused-4 .1 (e, p)
 
   -- a header is refused with no other number, and always at place 0
   pub record HeaderRefusal (r : Refusal) : Type 0 where
-    pub low : 2 ≤ r .number
-    pub high : r .number ≤ 4
+    pub low : noSignature ≤ r .number
+    pub high : r .number ≤ badParameters
     pub place : r .place ≡ 0
 
-  known : (k : ℕ) (r : Refusal) → 2 ≤ k → k ≤ 4 → refused k ≡ Refused r → HeaderRefusal r
-  unfolding numberOf placeOf
+  known : (k : ℕ) (r : Refusal) → noSignature ≤ k → k ≤ badParameters → refused k ≡ Refused r → HeaderRefusal r
   known k r l h e =
-      let n : k ≡ r .number = ap numberOf e in
-      let p : 0 ≡ r .place = ap placeOf e in
-      record { low = omega arith; high = omega arith; place = sym p }
+      let n : r .number ≡ k = cc in
+      record { low = omega arith; high = omega arith; place = cc }
 
   signed-numbers : (u : List ℕ) (x : HeaderStep) (r : Refusal) → Signed u x → x ≡ Refused r → HeaderRefusal r
   signed-numbers u x r (unblank b e) q = known badHardblank r (omega arith) (omega arith) (sym e ∙ q)
@@ -191,10 +206,10 @@ module _ (t : List ℕ) where
   signed-numbers u x r (blank h rest e b (bad p g)) q = known badParameters r (omega arith) (omega arith) (sym g ∙ q)
 
   pub header-refusal : (r : Refusal) → readHeader t ≡ Refused r → HeaderRefusal r
-  header-refusal r q = go (begins signature t) refl
+  header-refusal r q = go (begins fontSignature t) refl
     where
-      go : (b : Bool) → begins signature t ≡ b → HeaderRefusal r
-      go true e = signed-numbers (drop 5 t) (afterSignature (drop 5 t)) r (signed-is (drop 5 t)) (sym (with-signature e) ∙ q)
+      go : (b : Bool) → begins fontSignature t ≡ b → HeaderRefusal r
+      go true e = signed-numbers (drop (length fontSignature) t) (afterSignature (drop (length fontSignature) t)) r behind (sym (with-signature e) ∙ q)
       go false e = known noSignature r (omega arith) (omega arith) (sym (without-signature e) ∙ q)
 
   -- a header that is read has 1 to 32 rows
@@ -204,8 +219,8 @@ module _ (t : List ℕ) where
   signed-high u x y (blank h rest e b (bad p g)) q = clash (cc)
 
   pub header-high : (y : Header) → readHeader t ≡ Good y → High (y .height)
-  header-high y q = go (begins signature t) refl
+  header-high y q = go (begins fontSignature t) refl
     where
-      go : (b : Bool) → begins signature t ≡ b → High (y .height)
-      go true e = signed-high (drop 5 t) (afterSignature (drop 5 t)) y (signed-is (drop 5 t)) (sym (with-signature e) ∙ q)
+      go : (b : Bool) → begins fontSignature t ≡ b → High (y .height)
+      go true e = signed-high (drop (length fontSignature) t) (afterSignature (drop (length fontSignature) t)) y behind (sym (with-signature e) ∙ q)
       go false e = let r = sym (without-signature e) ∙ q in clash (cc)

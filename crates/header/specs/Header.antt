@@ -13,7 +13,7 @@ use Rattle.ground.specs.Refusals.{refusal, noSignature, badHardblank, badParame
 use Rattle.subchars.specs.declared.SubCharacter.{SubCharacter}
 use Rattle.subchars.specs.declared.Layout.{Layout}
 use Rattle.subchars.specs.Layouts.{oldLayout, fullLayout}
-use Rattle.subchars.specs.Pair.{isHardblank}
+use Rattle.subchars.specs.Pair.{legalHardblank}
 use Rattle.lines.specs.Words.{isBlank, firstWord, afterWord}
 use Rattle.lines.specs.Numbers.{headerNumber, highest}
 use Rattle.lines.specs.declared.numbers.Number.{Number as Read}
@@ -46,7 +46,7 @@ numbers (suc k) t = thenMore (headerNumber (firstWord t)) (numbers k (afterWord 
 unfoldable pub parameterNumbers : List ℕ → List ℤ
 parameterNumbers t = numbers maxParameters t
 
--- The k-th number of a list from 0, where there is one: a missing one is no 0.
+-- The k-th number of a list, from 0, if there is one: a missing one is not 0.
 unfoldable pub parameter : ℕ → List ℤ → Parameter
 parameter k [] = Missing
 parameter zero (z ∷ zs) = Number z
@@ -80,13 +80,13 @@ minOldLayout = negsuc 0
 unfoldable pub within : ℤ → ℤ → ℤ → Bool
 within low high z = leZ low z && leZ z high
 
--- A number that may be missing is within its bounds where it stands.
+-- A parameter that may be missing is within its bounds if it is there.
 unfoldable pub allowed : ℤ → Parameter → Bool
 allowed high Missing = true
 allowed high (Number z) = within (pos 0) high z
 
-unfoldable pub legal : Parameters → Bool
-legal p =
+unfoldable pub legalParameters : Parameters → Bool
+legalParameters p =
     within (pos 1) (pos maxHeight) (p .height) && within (pos 1) (p .height) (p .baseline) && within (pos 1) (pos maxLength) (p .«max_length») &&
     within minOldLayout (pos maxRules) (p .«old_layout») && within (pos 0) (pos maxCommentLines) (p .«comment_lines») &&
     allowed (pos maxDirection) (p .«print_direction») && allowed (pos maxFullLayout) (p .«full_layout») && allowed highest (p .«codetag_count»)
@@ -122,7 +122,7 @@ refused n = Refused (refusal n 0)
 
 -- "Under five numbers, or a value out of range."
 abbrev pub headerWith : SubCharacter → ParameterStep → HeaderStep
-headerWith h (All p) = cond (legal p) (Good (header h p)) (refused badParameters)
+headerWith h (All p) = cond (legalParameters p) (Good (header h p)) (refused badParameters)
 headerWith h TooFew = refused badParameters
 
 unfoldable pub headerOf : SubCharacter → List ℤ → HeaderStep
@@ -136,11 +136,11 @@ afterHardblank h (x ∷ xs) = cond (isBlank x) (headerOf h (parameterNumbers xs)
 -- "Hardblank absent, or blank, CR, LF, NUL."
 unfoldable pub afterSignature : List ℕ → HeaderStep
 afterSignature [] = refused badHardblank
-afterSignature (h ∷ xs) = cond (isHardblank h) (afterHardblank (record { 0 = h }) xs) (refused badHardblank)
+afterSignature (h ∷ xs) = cond (legalHardblank h) (afterHardblank (record { 0 = h }) xs) (refused badHardblank)
 
 -- "The header is flf2a, the hardblank, a blank or tab, then" the parameters: what the first line of a font says.
-abbrev pub signature : List ℕ
-signature = bytes "flf2a"
+abbrev pub fontSignature : List ℕ
+fontSignature = bytes "flf2a"
 
 unfoldable pub readHeader : List ℕ → HeaderStep
-readHeader t = cond (begins signature t) (afterSignature (drop (length signature) t)) (refused noSignature)
+readHeader t = cond (begins fontSignature t) (afterSignature (drop (length fontSignature) t)) (refused noSignature)

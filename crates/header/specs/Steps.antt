@@ -17,14 +17,14 @@ use Rattle.header.specs.declared.WordStep.{WordStep}
 use Rattle.header.specs.declared.WordStep.the-variants.{Word, NoWord}
 
 -- The numbers that are held: the first of the values.
-abbrev pub listed : Numbers → List ℤ
-listed ns = take (ns .count) (ns .values)
+abbrev pub numbersHeld : Numbers → List ℤ
+numbersHeld ns = take (ns .count) (ns .values)
 
 abbrev pub notNegative : Parameter → Bool
 notNegative Missing = true
 notNegative (Number z) = nonNeg z
 
--- One word by places: the number that the first word from a place on is, and where that word ends.
+-- One word by places, the first from a place on: the number that it is, and where it ends.
 abbrev pub wordNext : Read → ℕ → WordStep
 wordNext (Value z) next = Word z next
 wordNext NotNumber next = NoWord

@@ -58,9 +58,12 @@ pub enum HeaderStep {
     Refused(Refusal),
 }
 
-// The numbers at the start of a text: the first of the values, as many as the count says.
+// How many parameters a header has at most.
+pub const MAX_PARAMETERS: usize = 8;
+
+// The numbers at the start of a text: the first `count` of the values.
 pub struct Numbers {
-    pub values: [i32; 8],
+    pub values: [i32; MAX_PARAMETERS],
     pub count: usize,
 }
 
@@ -77,6 +80,13 @@ fn refusal(number: usize) -> HeaderStep
     HeaderStep::Refused(Refusal { number, place: 0 })
 }
 
+// The places of the hardblank, behind flf2a, of the blank or tab behind it, and where the parameters start.
+const HARDBLANK: usize = 5;
+
+const BLANK: usize = 6;
+
+const PARAMETERS_START: usize = 7;
+
 // What the first line of a font says.
 pub fn read_header(t: &[u8]) -> HeaderStep
     ensures { λ r. ⌜ r ≡ readHeader (now (t .entry)) ⌝ }
@@ -84,18 +94,21 @@ pub fn read_header(t: &[u8]) -> HeaderStep
     if !words::starts_with(t, b"flf2a") {
         return refusal(refusals::NO_SIGNATURE);
     }
-    if t.len() <= 5 {
+    if t.len() <= HARDBLANK {
         return refusal(refusals::BAD_HARDBLANK);
     }
-    let h = t[5];
-    if !subchars::is_hardblank(SubCharacter(h)) {
+    let h = t[HARDBLANK];
+    if !subchars::legal_hardblank(SubCharacter(h)) {
         return refusal(refusals::BAD_HARDBLANK);
     }
-    if t.len() <= 6 {
+    if t.len() <= BLANK {
         return refusal(refusals::BAD_PARAMETERS);
     }
-    if !words::is_blank(t[6]) {
+    if !words::is_blank(t[BLANK]) {
         return refusal(refusals::BAD_PARAMETERS);
     }
-    reading::header_of(SubCharacter(h), reading::find_numbers(&t[7..]))
+    reading::header_of(
+        SubCharacter(h),
+        reading::find_numbers(&t[PARAMETERS_START..]),
+    )
 }

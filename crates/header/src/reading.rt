@@ -2,6 +2,7 @@
 use crate::Given;
 use crate::Header;
 use crate::HeaderStep;
+use crate::MAX_PARAMETERS;
 use crate::Numbers;
 use crate::Parameter;
 use crate::ParameterStep;
@@ -22,12 +23,10 @@ ghost use lib.Dec.{T};
 ghost use lib.IntN.{natAbs};
 ghost use lib.ListN.{length};
 ghost use lib.Signed.{nonNeg};
-ghost use Rattle.header.specs.Header.{parameterNumbers, parameter, parameters, within, allowed, legal, given, layoutOf, header, headerOf};
-ghost use Rattle.header.specs.Steps.{listed, notNegative, wordStep};
+ghost use Rattle.header.specs.Header.{maxParameters, parameterNumbers, parameter, parameters, within, allowed, legalParameters, given, layoutOf, header, headerOf};
+ghost use Rattle.header.specs.Steps.{numbersHeld, notNegative, wordStep};
 
-// How many parameters there are, how many of them are required, and their ranges.
-const MAX_PARAMETERS: usize = 8;
-
+// How many parameters are required, and the ranges of all.
 const REQUIRED_PARAMETERS: usize = 5;
 
 const MAX_HEIGHT: i32 = limits::MAX_HEIGHT as i32;
@@ -46,7 +45,7 @@ const MAX_FULL_LAYOUT: i32 = limits::MAX_FULL_LAYOUT as i32;
 
 const MAX_CODETAG_COUNT: i32 = 2147483647;
 
-// The number that the first word from a place on is, and where that word ends.
+// The first word from a place on: the number that it is, and where it ends.
 fn next_number(t: &[u8], at: usize) -> WordStep
     requires { ⌜ at ≤ length (now t) ⌝ }
     ensures { λ r. ⌜ r ≡ wordStep (now (t .entry)) at ⌝ }
@@ -64,11 +63,11 @@ fn next_number(t: &[u8], at: usize) -> WordStep
     }
 }
 
-// The numbers at the start of a text, to the first word that is none, and at most eight.
+// The numbers at the start of a text: up to the first word that is no number, and at most eight.
 pub fn find_numbers(t: &[u8]) -> Numbers
-    ensures { λ r. ⌜ listed r ≡ parameterNumbers (now (t .entry)) ⌝ }
+    ensures { λ r. ⌜ numbersHeld r ≡ parameterNumbers (now (t .entry)) ⌝ }
 {
-    let mut values = [0i32; 8];
+    let mut values = [0i32; MAX_PARAMETERS];
     let mut n: usize = 0;
     let mut at: usize = 0;
     while n < MAX_PARAMETERS {
@@ -86,10 +85,10 @@ pub fn find_numbers(t: &[u8]) -> Numbers
     Numbers { values, count: n }
 }
 
-// The k-th of the numbers, where there is one.
+// The k-th of the numbers, from 0, if there is one.
 fn parameter_at(ns: Numbers, k: usize) -> Parameter
-    requires { ⌜ k < 8 ⌝ }
-    ensures { λ r. ⌜ r ≡ parameter k (listed ns) ⌝ }
+    requires { ⌜ k < maxParameters ⌝ }
+    ensures { λ r. ⌜ r ≡ parameter k (numbersHeld ns) ⌝ }
 {
     let v = ns.values;
     if k < ns.count {
@@ -100,7 +99,7 @@ fn parameter_at(ns: Numbers, k: usize) -> Parameter
 
 // The parameters by their names.
 fn parameters_of(ns: Numbers) -> ParameterStep
-    ensures { λ r. ⌜ r ≡ parameters (listed ns) ⌝ }
+    ensures { λ r. ⌜ r ≡ parameters (numbersHeld ns) ⌝ }
 {
     if ns.count < REQUIRED_PARAMETERS {
         return ParameterStep::TooFew;
@@ -124,7 +123,7 @@ fn is_within(z: i32, low: i32, high: i32) -> bool
     both(low <= z, z <= high)
 }
 
-// Whether a number that may be missing is within 0 and its upper bound where it stands.
+// Whether a parameter that may be missing is between 0 and its upper bound if it is there.
 fn is_allowed(p: Parameter, high: i32) -> bool
     ensures { λ r. ⌜ r ≡ allowed high p ⌝ }
 {
@@ -135,7 +134,7 @@ fn is_allowed(p: Parameter, high: i32) -> bool
 }
 
 fn is_legal(p: Parameters) -> bool
-    ensures { λ r. ⌜ r ≡ legal p ⌝ }
+    ensures { λ r. ⌜ r ≡ legalParameters p ⌝ }
 {
     let direction = p.print_direction;
     let full = p.full_layout;
@@ -182,7 +181,7 @@ fn layout_of(old: i32, full: Given) -> Layout
 
 // The header of legal parameters.
 fn legal_header(hardblank: SubCharacter, p: Parameters) -> Header
-    requires { ⌜ legal p ≡ true ⌝ }
+    requires { ⌜ legalParameters p ≡ true ⌝ }
     ensures { λ r. ⌜ r ≡ header hardblank p ⌝ }
 {
     let direction = p.print_direction;
@@ -205,7 +204,7 @@ fn legal_header(hardblank: SubCharacter, p: Parameters) -> Header
 
 // The header that the numbers of a line make.
 pub fn header_of(hardblank: SubCharacter, ns: Numbers) -> HeaderStep
-    ensures { λ r. ⌜ r ≡ headerOf hardblank (listed ns) ⌝ }
+    ensures { λ r. ⌜ r ≡ headerOf hardblank (numbersHeld ns) ⌝ }
 {
     match parameters_of(ns) {
         ParameterStep::All(p) => {

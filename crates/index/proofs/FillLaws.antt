@@ -9,12 +9,13 @@ use native.Mathlib.Numerals.{add-one}
 use lib.Dec.{ltb}
 use lib.IntN.{ℤ}
 use lib.ListN.{length, take, set, length-set, length-append}
-use lib.Seq.{take-suc-set}
 use borrow.Author.Tests.{ltb-true, ltb-false}
 use Rattle.ground.specs.Refusals.{refusal, tooManyCharacters}
 use Rattle.ground.specs.declared.refusals.Refusal.{Refusal}
 use Rattle.ground.proofs.Tests.{clash}
+use Rattle.ground.proofs.Areas.{map-more}
 use Rattle.ground.specs.Limits.{maxCharacters}
+use Rattle.lines.specs.declared.Cursor.{Cursor}
 use Rattle.rows.specs.declared.Format.{Format}
 use Rattle.chars.specs.declared.Entry.{Entry}
 use Rattle.chars.specs.declared.TagAt.{TagAt}
@@ -27,10 +28,10 @@ use Rattle.chars.specs.Steps.{listedAt, tagAt, blankFrom, taggedThen, taggedAt,
 use Rattle.chars.proofs.CodeLaws.{none-required}
 use Rattle.chars.proofs.ListingLaws.{rest, following, rest-step}
 use Rattle.index.specs.declared.Filling.the-variants.{Filled, Failed}
-use Rattle.index.specs.Index.{listingAt, endedBy, Room, Indexed, codeOf, startOf, widthOf}
+use Rattle.index.specs.Index.{listingAt, endedBy, CharacterRoom, Indexed, codeOf, startOf, widthOf}
 
 -- A character is listed only where there is room.
-pub listed-room : (f : Format) (s : List ℕ) (at n : ℕ) (e : Entry) (next : ℕ) → Listed e next ≡ nextAt f s at n → n < maxCharacters
+pub listed-room : (f : Format) (s : List ℕ) (at n : ℕ) (e : Entry) (next : Cursor) → Listed e next ≡ nextAt f s at n → n < maxCharacters
 unfolding nextAt taggedAt
 listed-room f s at n e next p = go (ltb n requiredCount) refl
   where
@@ -39,7 +40,7 @@ listed-room f s at n e next p = go (ltb n requiredCount) refl
     room false h x q = clash (cc)
 
     tag : (t : TagAt) → Listed e next ≡ taggedThen t f s at n → n < maxCharacters
-    tag (TagLine c m) q = room (ltb n maxCharacters) refl (listedAt f s m c) q
+    tag (TagLine c m) q = room (ltb n maxCharacters) refl (listedAt f s (m .at) c) q
     tag NoTag q = clash (cc)
 
     more : (b : Bool) (t : TagAt) → Listed e next ≡ cond b Complete (taggedThen t f s at n) → n < maxCharacters
@@ -54,16 +55,8 @@ listed-room f s at n e next p = go (ltb n requiredCount) refl
 abbrev before : List Entry → Listing → Listing
 before es x = record { entries = es ++ x .entries; ending = x .ending }
 
-map-snoc : {A : Type 0} (g : Entry → A) (es : List Entry) (e : Entry) → map g (es ++ (e ∷ [])) ≡ map g es ++ (g e ∷ [])
-map-snoc g [] e = refl
-map-snoc g (x ∷ es) e = ap (λ (l : List _). g x ∷ l) (map-snoc g es e)
-
--- one store more, in any of the lists
-field-more : {A : Type 0} (g : Entry → A) (l : List A) (n : ℕ) (es : List Entry) (e : Entry) → n < length l → take n l ≡ map g es → take (n + 1) (set l n (g e)) ≡ map g (es ++ (e ∷ []))
-field-more g l n es e h p = ap (λ (j : ℕ). take j (set l n (g e))) (add-one n) ∙ take-suc-set l n (g e) h ∙ ap (λ (x : List _). x ++ (g e ∷ [])) p ∙ sym (map-snoc g es e)
-
 -- The loop's invariant: n characters are in the index, and the others are to come from `at` on.
-pub record Held (f : Format) (s : List ℕ) (from : ℕ) (codes₀ : List ℤ) (starts₀ widths₀ : List ℕ) (codes : List ℤ) (starts widths : List ℕ) (at n : ℕ) : Type 0 where
+pub record CharactersHeld (f : Format) (s : List ℕ) (from : ℕ) (codes₀ : List ℤ) (starts₀ widths₀ : List ℕ) (codes : List ℤ) (starts widths : List ℕ) (at n : ℕ) : Type 0 where
   pub few : n ≤ maxCharacters
   pub long-codes : length codes ≡ length codes₀
   pub long-starts : length starts ≡ length starts₀
@@ -76,7 +69,7 @@ pub record Held (f : Format) (s : List ℕ) (from : ℕ) (codes₀ : List ℤ) (
   pub widths-are : take n widths ≡ map widthOf done
 
 module _ (f : Format) (s : List ℕ) (from : ℕ) (codes₀ : List ℤ) (starts₀ widths₀ : List ℕ) where
-  pub held-none : Held f s from codes₀ starts₀ widths₀ codes₀ starts₀ widths₀ from 0
+  pub held-none : CharactersHeld f s from codes₀ starts₀ widths₀ codes₀ starts₀ widths₀ from 0
   held-none =
       record {
         few = omega arith;
@@ -91,15 +84,15 @@ module _ (f : Format) (s : List ℕ) (from : ℕ) (codes₀ : List ℤ) (starts�
         widths-are = refl;
       }
 
-  module _ (big : Room maxCharacters codes₀ starts₀ widths₀) (codes : List ℤ) (starts widths : List ℕ) (at n : ℕ) (h : Held f s from codes₀ starts₀ widths₀ codes starts widths at n) where
-    step-whole : (e : Entry) (next : ℕ) → Listed e next ≡ nextAt f s at n → listingAt f s from ≡ before (h .done ++ (e ∷ [])) (rest f s (n + 1) next)
+  module _ (big : CharacterRoom maxCharacters codes₀ starts₀ widths₀) (codes : List ℤ) (starts widths : List ℕ) (at n : ℕ) (h : CharactersHeld f s from codes₀ starts₀ widths₀ codes starts widths at n) where
+    step-whole : (e : Entry) (next : Cursor) → Listed e next ≡ nextAt f s at n → listingAt f s from ≡ before (h .done ++ (e ∷ [])) (rest f s (n + 1) (next .at))
     step-whole e next p =
         h .whole ∙ ap (before (h .done)) (rest-step f s n at ∙ sym (ap (following f s n) p)) ∙
-        ap (λ (l : List Entry). record { entries = l; ending = rest f s (suc n) next .ending }) (sym (append-assoc (h .done) (e ∷ []) (rest f s (suc n) next .entries))) ∙
-        ap (λ (j : ℕ). before (h .done ++ (e ∷ [])) (rest f s j next)) (sym (add-one n))
+        ap (λ (l : List Entry). record { entries = l; ending = rest f s (suc n) (next .at) .ending }) (sym (append-assoc (h .done) (e ∷ []) (rest f s (suc n) (next .at) .entries))) ∙
+        ap (λ (j : ℕ). before (h .done ++ (e ∷ [])) (rest f s j (next .at))) (sym (add-one n))
 
-    pub held-more : (e : Entry) (next : ℕ) → Listed e next ≡ nextAt f s at n →
-        Held f s from codes₀ starts₀ widths₀ (set codes n (codeOf e)) (set starts n (startOf e)) (set widths n (widthOf e)) next (n + 1)
+    pub held-more : (e : Entry) (next : Cursor) → Listed e next ≡ nextAt f s at n →
+        CharactersHeld f s from codes₀ starts₀ widths₀ (set codes n (codeOf e)) (set starts n (startOf e)) (set widths n (widthOf e)) (next .at) (n + 1)
     held-more e next p =
         let r = listed-room f s at n e next p in
         record {
@@ -110,9 +103,9 @@ module _ (f : Format) (s : List ℕ) (from : ℕ) (codes₀ : List ℤ) (starts�
           done = h .done ++ (e ∷ []);
           count = omega (arith, h .count, length-append (h .done) (e ∷ []));
           whole = step-whole e next p;
-          codes-are = field-more codeOf codes n (h .done) e (omega (arith, h .long-codes, big .for-codes)) (h .codes-are);
-          starts-are = field-more startOf starts n (h .done) e (omega (arith, h .long-starts, big .for-starts)) (h .starts-are);
-          widths-are = field-more widthOf widths n (h .done) e (omega (arith, h .long-widths, big .for-widths)) (h .widths-are);
+          codes-are = map-more codeOf codes n (h .done) e (omega (arith, h .long-codes, big .for-codes)) (h .codes-are);
+          starts-are = map-more startOf starts n (h .done) e (omega (arith, h .long-starts, big .for-starts)) (h .starts-are);
+          widths-are = map-more widthOf widths n (h .done) e (omega (arith, h .long-widths, big .for-widths)) (h .widths-are);
         }
 
     stop : (x : Ending) → ends x ≡ rest f s n at → Indexed (listingAt f s from) (endedBy x n) codes starts widths

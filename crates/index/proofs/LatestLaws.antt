@@ -1,4 +1,4 @@
--- The last places of the codes below 256, as one pass over the codes finds them.
+-- The last places of the small codes, as one pass over the codes finds them.
 -- Assumes nothing.
 use mathlib.Core.Path.{_≡_, refl, sym, ap, _∙_, subst}
 use mathlib.Core.Bool.{Bool, true, false, cond, true≢false}
@@ -7,19 +7,19 @@ use Prim.Native.Nat.{ℕ, _-_, _+_, _≤_, _<_}
 use native.Mathlib.Omega.{arith}
 use lib.Dec.{T, ltb, eqb}
 use lib.IntN.{ℤ, pos, negsuc, natAbs}
-use lib.Signed.{ltZ, nonNeg}
+use lib.Signed.{ltZ, leZ, nonNeg}
 use lib.ListN.{length, getD, take, set, replicate, length-set, length-replicate, getD-replicate}
 use lib.Seq.{getD-set-same, getD-set-other}
 use mir.Syntax.{w64}
 use mir.Val.{Fits}
-use borrow.Author.Tests.{ltb-true, ltb-false, lt-ltb, le-ltb, eq-eqb, ne-eqb, eqb-true}
+use borrow.Author.Tests.{leb-true, leb-false, ltb-true, ltb-false, lt-ltb, le-ltb, eq-eqb, ne-eqb, eqb-true}
 use Rattle.ground.proofs.Tests.{clash}
 use Rattle.chars.specs.Codes.{sameNumber}
 use Rattle.index.specs.declared.Found.{Found}
 use Rattle.index.specs.declared.Found.the-variants.{At, Nowhere}
 use Rattle.index.specs.declared.latest.Small.the-variants.{Below, Beyond}
 use Rattle.index.specs.LookUp.{lastAt}
-use Rattle.index.specs.Latest.{smallOf, placed, Latest, Noted}
+use Rattle.index.specs.Latest.{smallCodes, smallOf, placed, Latest, Noted}
 use Rattle.index.proofs.FindLaws.{last-next}
 
 pub beyond-low : (z : ℤ) → ltZ z (pos 0) ≡ true → Beyond ≡ smallOf z
@@ -27,40 +27,40 @@ unfolding smallOf
 beyond-low (pos n) e = let l = ltb-true n 0 e in absurd (omega arith)
 beyond-low (negsuc n) e = refl
 
-pub beyond-high : (z : ℤ) → ltZ (pos 255) z ≡ true → Beyond ≡ smallOf z
+pub beyond-high : (z : ℤ) → leZ (pos smallCodes) z ≡ true → Beyond ≡ smallOf z
 unfolding smallOf
-beyond-high (pos n) e = let l = ltb-true 255 n e in sym (simp (le-ltb n 256 (omega arith)))
+beyond-high (pos n) e = sym (simp (le-ltb n smallCodes (leb-true smallCodes n e)))
 beyond-high (negsuc n) e = refl
 
-pub below-is : (z : ℤ) → ltZ z (pos 0) ≡ false → ltZ (pos 255) z ≡ false → Below (natAbs z) ≡ smallOf z
+pub below-is : (z : ℤ) → ltZ z (pos 0) ≡ false → leZ (pos smallCodes) z ≡ false → Below (natAbs z) ≡ smallOf z
 unfolding smallOf
-below-is (pos n) e h = let l = ltb-false 255 n h in sym (simp (lt-ltb n 256 (omega arith)))
+below-is (pos n) e h = sym (simp (lt-ltb n smallCodes (leb-false smallCodes n h)))
 below-is (negsuc n) e h = absurd (true≢false e)
 
-pub below-fits : (z : ℤ) → ltZ z (pos 0) ≡ false → ltZ (pos 255) z ≡ false → T (nonNeg z) × Fits w64 (natAbs z)
-below-fits (pos n) e h = (tt, record { fits = omega (arith, ltb-false 255 n h) })
+pub below-fits : (z : ℤ) → ltZ z (pos 0) ≡ false → leZ (pos smallCodes) z ≡ false → T (nonNeg z) × Fits w64 (natAbs z)
+below-fits (pos n) e h = (tt, record { fits = omega (arith, leb-false smallCodes n h) })
 below-fits (negsuc n) e h = absurd (true≢false e)
 
--- a code that is below 256, and one that is not
-pub small-below : (z : ℤ) (c : ℕ) → smallOf z ≡ Below c → (z ≡ pos c) × (c < 256)
+-- a small code, and one that is not
+pub small-below : (z : ℤ) (c : ℕ) → smallOf z ≡ Below c → (z ≡ pos c) × (c < smallCodes)
 unfolding smallOf
 small-below (negsuc n) c e = clash (cc)
-small-below (pos n) c e = go (ltb n 256) refl e
+small-below (pos n) c e = go (ltb n smallCodes) refl e
   where
-    go : (b : Bool) → ltb n 256 ≡ b → cond b (Below n) Beyond ≡ Below c → (pos n ≡ pos c) × (c < 256)
-    go true q e = let s : n ≡ c = cc in (ap pos s, subst (λ (j : ℕ). j < 256) s (ltb-true n 256 q))
+    go : (b : Bool) → ltb n smallCodes ≡ b → cond b (Below n) Beyond ≡ Below c → (pos n ≡ pos c) × (c < smallCodes)
+    go true q e = let s : n ≡ c = cc in (ap pos s, subst (λ (j : ℕ). j < smallCodes) s (ltb-true n smallCodes q))
     go false q e = clash (cc)
 
-pub small-beyond : (z : ℤ) (c : ℕ) → smallOf z ≡ Beyond → c < 256 → sameNumber z (pos c) ≡ false
+pub small-beyond : (z : ℤ) (c : ℕ) → smallOf z ≡ Beyond → c < smallCodes → sameNumber z (pos c) ≡ false
 unfolding smallOf
 small-beyond (negsuc n) c e h = refl
-small-beyond (pos n) c e h = go (ltb n 256) refl e
+small-beyond (pos n) c e h = go (ltb n smallCodes) refl e
   where
-    go : (b : Bool) → ltb n 256 ≡ b → cond b (Below n) Beyond ≡ Beyond → eqb n c ≡ false
+    go : (b : Bool) → ltb n smallCodes ≡ b → cond b (Below n) Beyond ≡ Beyond → eqb n c ≡ false
     go true q e = clash (cc)
-    go false q e = let l = ltb-false n 256 q in ne-eqb n c (λ (s : n ≡ c). omega arith)
+    go false q e = let l = ltb-false n smallCodes q in ne-eqb n c (λ (s : n ≡ c). omega arith)
 
-pub noted-here : (z : ℤ) (c place : ℕ) (l : List ℕ) → smallOf z ≡ Below c → length l ≡ 256 → Noted z place l (set l c place)
+pub noted-here : (z : ℤ) (c place : ℕ) (l : List ℕ) → smallOf z ≡ Below c → length l ≡ smallCodes → Noted z place l (set l c place)
 noted-here z c place l e h = record { size = length-set l c place; places = λ j k. at j (eqb c j) refl ∙ ap (λ (y : ℤ). cond (sameNumber y (pos j)) place (getD l j 0)) (sym (small-below z c e .0)) }
   where
     at : (j : ℕ) (b : Bool) → eqb c j ≡ b → getD (set l c place) j 0 ≡ cond (eqb c j) place (getD l j 0)
@@ -73,12 +73,12 @@ pub noted-none : (z : ℤ) (place : ℕ) (l : List ℕ) → smallOf z ≡ Beyond
 noted-none z place l e = record { size = refl; places = λ j k. sym (ap (λ (b : Bool). cond b place (getD l j 0)) (small-beyond z j e k)) }
 
 -- no code yet: a list of zeros
-pub latest-none : (codes : List ℤ) (old new : List ℕ) → length old ≡ 256 → new ≡ take 0 old ++ replicate (length old - 0) 0 → Latest (take 0 codes) new
+pub latest-none : (codes : List ℤ) (old new : List ℕ) → length old ≡ smallCodes → new ≡ take 0 old ++ replicate (length old - 0) 0 → Latest (take 0 codes) new
 unfolding lastAt
-latest-none codes old new h e = record { size = ap length zeros ∙ length-replicate {A = ℕ} 256 0; places = λ c k. ap (λ (l : List ℕ). getD l c 0) zeros ∙ getD-replicate 256 c 0 0 k }
+latest-none codes old new h e = record { size = ap length zeros ∙ length-replicate {A = ℕ} smallCodes 0; places = λ c k. ap (λ (l : List ℕ). getD l c 0) zeros ∙ getD-replicate smallCodes c 0 0 k }
   where
-    zeros : new ≡ replicate 256 0
-    zeros = let n : length old - 0 ≡ 256 = omega (arith, h) in e ∙ ap (λ (n : ℕ). replicate {A = ℕ} n 0) n
+    zeros : new ≡ replicate smallCodes 0
+    zeros = let n : length old - 0 ≡ smallCodes = omega (arith, h) in e ∙ ap (λ (n : ℕ). replicate {A = ℕ} n 0) n
 
 -- one code more
 pub latest-more :
@@ -86,7 +86,7 @@ pub latest-more :
     i < length codes → Latest (take i codes) old → Noted (getD codes i (pos 0)) (i + 1) old new → Latest (take (i + 1) codes) new
 latest-more codes i old new h l n = record { size = n .size ∙ l .size; places = at }
   where
-    at : (c : ℕ) → c < 256 → getD new c 0 ≡ placed (lastAt (pos c) (take (i + 1) codes))
+    at : (c : ℕ) → c < smallCodes → getD new c 0 ≡ placed (lastAt (pos c) (take (i + 1) codes))
     at c k =
         let b = sameNumber (getD codes i (pos 0)) (pos c) in
         n .places c k ∙ ap (λ (p : ℕ). cond b (i + 1) p) (l .places c k) ∙ placing b (lastAt (pos c) (take i codes)) ∙
@@ -96,7 +96,7 @@ latest-more codes i old new h l n = record { size = n .size ∙ l .size; places 
         placing true r = omega arith
         placing false r = refl
 
--- what the list tells of a code below 256
+-- what the list tells of a small code
 module _ (codes : List ℤ) (latest : List ℕ) (z : ℤ) (c : ℕ) (l : Latest codes latest) (s : smallOf z ≡ Below c) where
   told : getD latest c 0 ≡ placed (lastAt z codes)
   told = l .places c (small-below z c s .1) ∙ ap (λ (y : ℤ). placed (lastAt y codes)) (sym (small-below z c s .0))

@@ -30,7 +30,7 @@ abbrev pub listingAt : Format → List ℕ → ℕ → Listing
 listingAt f s at = listing f (length s) requiredCodes 0 (linesFrom s at)
 
 -- Room for n characters in each list.
-pub record Room (n : ℕ) (codes : List ℤ) (starts widths : List ℕ) : Type 0 where
+pub record CharacterRoom (n : ℕ) (codes : List ℤ) (starts widths : List ℕ) : Type 0 where
   pub for-codes : n ≤ length codes
   pub for-starts : n ≤ length starts
   pub for-widths : n ≤ length widths

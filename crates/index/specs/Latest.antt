@@ -1,4 +1,4 @@
--- The last place of each code below 256, the codes of a text's bytes, in an index.
+-- The last place of each small code in an index.
 -- Assumes nothing.
 use mathlib.Core.Path.{_≡_}
 use mathlib.Core.Bool.{cond}
@@ -14,9 +14,13 @@ use Rattle.index.specs.LookUp.{lastAt}
 use Rattle.index.specs.declared.latest.Small.{Small}
 use Rattle.index.specs.declared.latest.Small.the-variants.{Below, Beyond}
 
--- A code below 256, or another one.
+-- The small codes are those of a text's bytes: 0 to 255.
+abbrev pub smallCodes : ℕ
+smallCodes = 256
+
+-- A small code, or another one.
 unfoldable pub smallOf : ℤ → Small
-smallOf (pos n) = cond (ltb n 256) (Below n) Beyond
+smallOf (pos n) = cond (ltb n smallCodes) (Below n) Beyond
 smallOf (negsuc n) = Beyond
 
 -- One more than a place; 0 for none.
@@ -24,12 +28,12 @@ abbrev pub placed : Found → ℕ
 placed Nowhere = 0
 placed (At k) = suc k
 
--- The list holds, for each code below 256, one more than its last place.
+-- The list holds, for each small code, one more than its last place.
 pub record Latest (codes : List ℤ) (latest : List ℕ) : Type 0 where
-  pub size : length latest ≡ 256
-  pub places : (c : ℕ) → c < 256 → getD latest c 0 ≡ placed (lastAt (pos c) codes)
+  pub size : length latest ≡ smallCodes
+  pub places : (c : ℕ) → c < smallCodes → getD latest c 0 ≡ placed (lastAt (pos c) codes)
 
--- The list with a place for one code more.
+-- The list after a place is noted for a code.
 pub record Noted (code : ℤ) (place : ℕ) (old new : List ℕ) : Type 0 where
   pub size : length new ≡ length old
-  pub places : (c : ℕ) → c < 256 → getD new c 0 ≡ cond (sameNumber code (pos c)) place (getD old c 0)
+  pub places : (c : ℕ) → c < smallCodes → getD new c 0 ≡ cond (sameNumber code (pos c)) place (getD old c 0)

@@ -19,9 +19,9 @@ lastAt z [] = Nowhere
 lastAt z (x ∷ xs) = orHere (lastAt z xs) (sameNumber x z)
 
 -- "Otherwise the character with code 0 stands in; if there is none, nothing is drawn."
-abbrev pub orElse : Found → Found → Found
-orElse (At k) r = At k
-orElse Nowhere r = r
+abbrev pub orStandIn : Found → Found → Found
+orStandIn (At k) r = At k
+orStandIn Nowhere r = r
 
 unfoldable pub lookUp : Code → List ℤ → Found
-lookUp c codes = orElse (lastAt (c .0) codes) (lastAt (pos 0) codes)
+lookUp c codes = orStandIn (lastAt (c .0) codes) (lastAt (pos 0) codes)

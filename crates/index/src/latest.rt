@@ -1,13 +1,18 @@
-// The last place of each code below 256 in an index, found in one pass, so that the codes of a text's bytes are looked up at once.
+// The last place of each small code in an index, found in one pass, so that the codes of a text's bytes are looked up at once.
 use crate::Found;
 use crate::find;
 use subchars::Code;
 ghost use mathlib.Core.Path.{_≡_};
 ghost use lib.ListN.{length};
 ghost use Rattle.index.specs.LookUp.{lastAt, lookUp};
-ghost use Rattle.index.specs.Latest.{smallOf, Latest, Noted};
+ghost use Rattle.index.specs.Latest.{smallCodes, smallOf, Latest, Noted};
 
-// A code below 256, or another one.
+// The small codes are those of a text's bytes: 0 to 255.
+pub const SMALL_CODES: usize = 256;
+
+const FIRST_BEYOND: i32 = SMALL_CODES as i32;
+
+// A small code, or another one.
 pub enum Small {
     Below(usize),
     Beyond,
@@ -20,15 +25,15 @@ fn as_small(code: Code) -> Small
     if z < 0 {
         return Small::Beyond;
     }
-    if 255 < z {
+    if FIRST_BEYOND <= z {
         return Small::Beyond;
     }
     Small::Below(z as usize)
 }
 
-// Notes a place for a code below 256.
+// Notes a place for a code, if it is small.
 fn note(latest: &mut [usize], code: Code, place: usize)
-    requires { ⌜ length (now latest) ≡ 256 ⌝ }
+    requires { ⌜ length (now latest) ≡ smallCodes ⌝ }
     ensures { λ _. ⌜ Noted (code .0) place (now (latest .entry)) (now (latest .exit)) ⌝ }
 {
     match as_small(code) {
@@ -39,9 +44,9 @@ fn note(latest: &mut [usize], code: Code, place: usize)
     }
 }
 
-// The last place of each code below 256, as one more than it; 0 where the code has none.
+// Writes for each small code one more than its last place, or 0 where it has none.
 pub fn find_latest(codes: &[i32], latest: &mut [usize])
-    requires { ⌜ length (now latest) ≡ 256 ⌝ }
+    requires { ⌜ length (now latest) ≡ smallCodes ⌝ }
     ensures { λ _. ⌜ Latest (now (codes .entry)) (now (latest .exit)) ⌝ }
 {
     ground::zero_numbers(latest, 0);
@@ -52,7 +57,7 @@ pub fn find_latest(codes: &[i32], latest: &mut [usize])
     }
 }
 
-// The last place of a code, from the list where it is below 256.
+// The last place of a code; the list tells that of a small one.
 fn find_known(codes: &[i32], latest: &[usize], code: Code) -> Found
     requires { ⌜ Latest (now codes) (now latest) ⌝ }
     ensures { λ r. ⌜ r ≡ lastAt (code .0) (now (codes .entry)) ⌝ }
@@ -69,7 +74,7 @@ fn find_known(codes: &[i32], latest: &[usize], code: Code) -> Found
     }
 }
 
-// Look-up with the list at hand.
+// Look-up by the list.
 pub fn look_up(codes: &[i32], latest: &[usize], code: Code) -> Found
     requires { ⌜ Latest (now codes) (now latest) ⌝ }
     ensures { λ r. ⌜ r ≡ lookUp code (now (codes .entry)) ⌝ }

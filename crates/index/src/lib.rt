@@ -3,11 +3,12 @@ pub mod latest;
 
 use chars::CharNext;
 use ground::refusals::Refusal;
+use lines::Cursor;
 use rows::Format;
 use subchars::Code;
 ghost use mathlib.Core.Path.{_≡_};
 ghost use Rattle.ground.specs.Limits.{maxCharacters};
-ghost use Rattle.index.specs.Index.{listingAt, Room, Indexed};
+ghost use Rattle.index.specs.Index.{listingAt, CharacterRoom, Indexed};
 ghost use Rattle.index.specs.LookUp.{lastAt, lookUp};
 
 // How many characters are in the index, or why they could not be read.
@@ -22,22 +23,22 @@ pub enum Found {
     Nowhere,
 }
 
-// Writes the characters from a place of a font on into the index, one pass over the font.
+// Writes the characters of a font, from a cursor on, into the index: one pass over the font.
 pub fn fill(
     f: Format,
     s: &[u8],
-    from: usize,
+    from: Cursor,
     codes: &mut [i32],
     starts: &mut [usize],
     widths: &mut [usize],
 ) -> Filling
-    requires { ⌜ Room maxCharacters (now codes) (now starts) (now widths) ⌝ }
-    ensures { λ r. ⌜ Indexed (listingAt f (now (s .entry)) from) r (now (codes .exit)) (now (starts .exit)) (now (widths .exit)) ⌝ }
+    requires { ⌜ CharacterRoom maxCharacters (now codes) (now starts) (now widths) ⌝ }
+    ensures { λ r. ⌜ Indexed (listingAt f (now (s .entry)) (from .at)) r (now (codes .exit)) (now (starts .exit)) (now (widths .exit)) ⌝ }
 {
-    let mut at = from;
+    let mut cursor = from;
     let mut n: usize = 0;
     loop {
-        match chars::next_char(f, s, at, n) {
+        match chars::next_char(f, s, cursor, n) {
             CharNext::Listed { entry, next } => {
                 let code = entry.code;
                 let z = code.0;
@@ -45,7 +46,7 @@ pub fn fill(
                 starts[n] = entry.start;
                 widths[n] = entry.width;
                 n += 1;
-                at = next;
+                cursor = next;
             }
             CharNext::Complete => {
                 return Filling::Filled(n);

@@ -8,11 +8,12 @@ use lib.IntN.{ℤ}
 use lib.ListN.{length}
 use Rattle.ground.specs.declared.refusals.Refusal.{Refusal}
 use Rattle.ground.proofs.Tests.{clash}
+use Rattle.lines.specs.declared.Cursor.{Cursor}
 use Rattle.header.specs.declared.Header.{Header}
 use Rattle.chars.specs.Chars.{Ending, finished, stopped, Listing}
 use Rattle.font.specs.declared.Opening.the-variants.{Open, Closed}
 use Rattle.rows.specs.declared.Format.{Format}
-use Rattle.font.specs.Font.{Reading, says, refuses, format, readingOf, withCharacters, reading}
+use Rattle.font.specs.Font.{FontReading, says, refuses, format, readingOf, withCharacters, reading}
 use Rattle.font.specs.Steps.{openAt, readFrom}
 use Rattle.font.proofs.OpenLaws.{open-reads}
 use Rattle.index.specs.declared.Filling.{Filling}
@@ -20,7 +21,7 @@ use Rattle.index.specs.declared.Filling.the-variants.{Filled, Failed}
 use Rattle.index.specs.Index.{listingAt, endedBy, Indexed}
 use Rattle.reader.specs.declared.FontAnswer.{FontAnswer}
 use Rattle.reader.specs.declared.FontAnswer.the-variants.{Read, Refused}
-use Rattle.reader.specs.Reader.{answerOf, entriesOf, ReadInto, Behind}
+use Rattle.reader.specs.Reader.{fontAnswer, entriesOf, ReadInto, Behind}
 
 module _ (codes : List ℤ) (starts widths : List ℕ) where
   -- a refused font has no characters
@@ -56,21 +57,21 @@ module _ (codes : List ℤ) (starts widths : List ℕ) where
     behind-failed q p = failed h (listingAt (format h) s at) q (indexed (Failed q) p)
 
   module _ (s : List ℕ) where
-    pub opened : (h : Header) (at : ℕ) (r : FontAnswer) → Open h at ≡ openAt s → Behind h s at r codes starts widths → ReadInto (reading s) r codes starts widths
-    opened h at r p b = subst (λ (m : Reading). ReadInto m r codes starts widths) (sym (open-reads s ∙ ap (readFrom s) (sym p))) b
+    pub opened : (h : Header) (next : Cursor) (r : FontAnswer) → Open h next ≡ openAt s → Behind h s (next .at) r codes starts widths → ReadInto (reading s) r codes starts widths
+    opened h next r p b = subst (λ (m : FontReading). ReadInto m r codes starts widths) (sym (open-reads s ∙ ap (readFrom s) (sym p))) b
 
     pub closed : (r : Refusal) → Closed r ≡ openAt s → ReadInto (reading s) (Refused r) codes starts widths
-    closed r p = subst (λ (m : Reading). ReadInto m (Refused r) codes starts widths) (sym (open-reads s ∙ ap (readFrom s) (sym p))) (unread r)
+    closed r p = subst (λ (m : FontReading). ReadInto m (Refused r) codes starts widths) (sym (open-reads s ∙ ap (readFrom s) (sym p))) (unread r)
 
 -- What the answer says of the font.
-pub record Said (m : Reading) (h : Header) (n : ℕ) : Type 0 where
+pub record Said (m : FontReading) (h : Header) (n : ℕ) : Type 0 where
   pub is : m ≡ says h (entriesOf m)
   pub count : n ≡ length (entriesOf m)
 
-pub read-says : (m : Reading) (h : Header) (n : ℕ) → Read h n ≡ answerOf m → Said m h n
+pub read-says : (m : FontReading) (h : Header) (n : ℕ) → Read h n ≡ fontAnswer m → Said m h n
 read-says (says g es) h n e = let p : h ≡ g = cc in record { is = ap (λ (x : Header). says x es) (sym p); count = cc }
 read-says (refuses q) h n e = clash (cc)
 
-pub unread-refuses : (m : Reading) (r : Refusal) → Refused r ≡ answerOf m → m ≡ refuses r
+pub unread-refuses : (m : FontReading) (r : Refusal) → Refused r ≡ fontAnswer m → m ≡ refuses r
 unread-refuses (says g es) r e = clash (cc)
 unread-refuses (refuses q) r e = let p : r ≡ q = cc in ap refuses (sym p)

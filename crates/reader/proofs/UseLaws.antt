@@ -16,17 +16,17 @@ use Rattle.chars.specs.Chars.{entry}
 use Rattle.index.specs.declared.Found.{Found}
 use Rattle.index.specs.declared.Found.the-variants.{At, Nowhere}
 use Rattle.index.specs.Index.{codeOf, startOf, widthOf, Lists}
-use Rattle.index.specs.LookUp.{lastAt, orElse, lookUp}
+use Rattle.index.specs.LookUp.{lastAt, orStandIn, lookUp}
 use Rattle.index.proofs.FindLaws.{at-last}
 use Rattle.reader.specs.declared.Use.the-variants.{Used, Nothing}
-use Rattle.reader.specs.Reader.{Within, entryAt, atFound, used}
+use Rattle.reader.specs.Reader.{FoundBelow, entryAt, atFound, used}
 
 -- Look-up finds a place of the list.
 pub found-inside : (c : Code) (l : List ℤ) (k : ℕ) → At k ≡ lookUp c l → k < length l
 unfolding lookUp
 found-inside c l k e = go (lastAt (c .0) l) refl e
   where
-    go : (r : Found) → lastAt (c .0) l ≡ r → At k ≡ orElse r (lastAt (pos 0) l) → k < length l
+    go : (r : Found) → lastAt (c .0) l ≡ r → At k ≡ orStandIn r (lastAt (pos 0) l) → k < length l
     go (At j) p q = at-last (c .0) l k (p ∙ sym q) .inside
     go Nowhere p q = at-last (pos 0) l k (sym q) .inside
 
@@ -57,10 +57,10 @@ parts-at codes starts widths es l k h =
 
 -- What look-up finds among the first n codes.
 module _ (c : Code) (codes : List ℤ) (n : ℕ) (f : Found) (found : f ≡ lookUp c (take n codes)) where
-  pub found-within : n ≤ length codes → Within n f
+  pub found-within : n ≤ length codes → FoundBelow n f
   found-within h = go f found
     where
-      go : (x : Found) → x ≡ lookUp c (take n codes) → Within n x
+      go : (x : Found) → x ≡ lookUp c (take n codes) → FoundBelow n x
       go (At k) e = omega (arith, found-inside c (take n codes) k e, length-take-le n codes h)
       go Nowhere e = tt
 

@@ -8,7 +8,7 @@ use lib.ListN.{length}
 use Rattle.subchars.specs.declared.Code.{Code}
 use Rattle.header.specs.declared.Header.{Header}
 use Rattle.chars.specs.declared.Entry.{Entry}
-use Rattle.font.specs.Font.{Reading, says, refuses, format, withCharacters}
+use Rattle.font.specs.Font.{FontReading, says, refuses, format, withCharacters}
 use Rattle.index.specs.declared.Found.{Found}
 use Rattle.index.specs.declared.Found.the-variants.{At, Nowhere}
 use Rattle.index.specs.Index.{codeOf, listingAt, Lists}
@@ -19,18 +19,18 @@ use Rattle.reader.specs.declared.Use.{Use}
 use Rattle.reader.specs.declared.Use.the-variants.{Used, Nothing}
 
 -- "And the answer gives how many."
-abbrev pub answerOf : Reading → FontAnswer
-answerOf (says h es) = Read h (length es)
-answerOf (refuses r) = Refused r
+abbrev pub fontAnswer : FontReading → FontAnswer
+fontAnswer (says h es) = Read h (length es)
+fontAnswer (refuses r) = Refused r
 
 -- The characters of a font that is read.
-abbrev pub entriesOf : Reading → List Entry
+abbrev pub entriesOf : FontReading → List Entry
 entriesOf (says h es) = es
 entriesOf (refuses r) = []
 
 -- What reading a font answers, and its characters in the lists.
-pub record ReadInto (m : Reading) (r : FontAnswer) (codes : List ℤ) (starts widths : List ℕ) : Type 0 where
-  pub answer : r ≡ answerOf m
+pub record ReadInto (m : FontReading) (r : FontAnswer) (codes : List ℤ) (starts widths : List ℕ) : Type 0 where
+  pub answer : r ≡ fontAnswer m
   pub lists : Lists (entriesOf m) codes starts widths
 
 -- The same, from the place behind the comment lines on.
@@ -38,9 +38,9 @@ abbrev pub Behind : Header → List ℕ → ℕ → FontAnswer → List ℤ → 
 Behind h s at r codes starts widths = ReadInto (withCharacters h (listingAt (format h) s at)) r codes starts widths
 
 -- A place that was found is one of the first n.
-abbrev pub Within : ℕ → Found → Type 0
-Within n (At k) = k < n
-Within n Nowhere = Unit
+abbrev pub FoundBelow : ℕ → Found → Type 0
+FoundBelow n (At k) = k < n
+FoundBelow n Nowhere = Unit
 
 -- The entry at a place of a list.
 unfoldable pub entryAt : List Entry → ℕ → Use

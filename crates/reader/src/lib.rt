@@ -6,6 +6,7 @@ use header::Header;
 use index::Filling;
 use index::Found;
 use index::latest;
+use lines::Cursor;
 use rows::Format;
 use subchars::Code;
 ghost use mathlib.Core.Path.{_≡_};
@@ -13,10 +14,10 @@ ghost use mathlib.Core.List.{List};
 ghost use lib.ListN.{length, take};
 ghost use Rattle.ground.specs.Limits.{maxCharacters};
 ghost use Rattle.chars.specs.declared.Entry.{Entry};
-ghost use Rattle.index.specs.Index.{Room, Lists};
+ghost use Rattle.index.specs.Index.{CharacterRoom, Lists};
 ghost use Rattle.index.specs.Latest.{Latest};
 ghost use Rattle.font.specs.Font.{format, reading};
-ghost use Rattle.reader.specs.Reader.{ReadInto, Behind, Within, atFound, used};
+ghost use Rattle.reader.specs.Reader.{ReadInto, Behind, FoundBelow, atFound, used};
 
 // What reading a font answers: its header, with the layout, and how many characters it has; or a refusal.
 pub enum FontAnswer {
@@ -42,20 +43,20 @@ fn format_of(h: Header) -> Format
     }
 }
 
-// Writes the characters of a font whose header was read into the lists; they start at a place.
+// Reads the characters of a font into the lists. Its header was read, and they start at a cursor.
 fn read_characters(
     h: Header,
     font: &[u8],
-    at: usize,
+    cursor: Cursor,
     codes: &mut [i32],
     starts: &mut [usize],
     widths: &mut [usize],
 ) -> FontAnswer
-    requires { ⌜ Room maxCharacters (now codes) (now starts) (now widths) ⌝ }
-    ensures { λ r. ⌜ Behind h (now (font .entry)) at r (now (codes .exit)) (now (starts .exit)) (now (widths .exit)) ⌝ }
+    requires { ⌜ CharacterRoom maxCharacters (now codes) (now starts) (now widths) ⌝ }
+    ensures { λ r. ⌜ Behind h (now (font .entry)) (cursor .at) r (now (codes .exit)) (now (starts .exit)) (now (widths .exit)) ⌝ }
 {
     let f = format_of(h);
-    match index::fill(f, font, at, codes, starts, widths) {
+    match index::fill(f, font, cursor, codes, starts, widths) {
         Filling::Filled(n) => FontAnswer::Read {
             header: h,
             count: n,
@@ -71,19 +72,21 @@ pub fn read_lists(
     starts: &mut [usize],
     widths: &mut [usize],
 ) -> FontAnswer
-    requires { ⌜ Room maxCharacters (now codes) (now starts) (now widths) ⌝ }
+    requires { ⌜ CharacterRoom maxCharacters (now codes) (now starts) (now widths) ⌝ }
     ensures { λ r. ⌜ ReadInto (reading (now (font .entry))) r (now (codes .exit)) (now (starts .exit)) (now (widths .exit)) ⌝ }
 {
     match font::open_font(font) {
-        Opening::Open { header, at } => read_characters(header, font, at, codes, starts, widths),
+        Opening::Open { header, next } => {
+            read_characters(header, font, next, codes, starts, widths)
+        }
         Opening::Closed(r) => FontAnswer::Refused(r),
     }
 }
 
 // What the lists hold at the place that look-up found.
 fn entry_at(codes: &[i32], starts: &[usize], widths: &[usize], count: usize, found: Found) -> Use
-    requires { ⌜ Room count (now codes) (now starts) (now widths) ⌝ }
-    requires { ⌜ Within count found ⌝ }
+    requires { ⌜ CharacterRoom count (now codes) (now starts) (now widths) ⌝ }
+    requires { ⌜ FoundBelow count found ⌝ }
     ensures { λ r. ⌜ ((es : List Entry) → count ≡ length es → Lists es (now (codes .entry)) (now (starts .entry)) (now (widths .entry)) → r ≡ atFound found es) ⌝ }
 {
     match found {
@@ -104,14 +107,14 @@ pub fn find_entry(
     count: usize,
     code: Code,
 ) -> Use
-    requires { ⌜ Room count (now codes) (now starts) (now widths) ⌝ }
+    requires { ⌜ CharacterRoom count (now codes) (now starts) (now widths) ⌝ }
     ensures { λ r. ⌜ ((es : List Entry) → count ≡ length es → Lists es (now (codes .entry)) (now (starts .entry)) (now (widths .entry)) → r ≡ used code es) ⌝ }
 {
     let found = index::look_up(&codes[..count], code);
     entry_at(codes, starts, widths, count, found)
 }
 
-// The same, where the last places of the codes below 256 are at hand.
+// The same, with the last places of the small codes.
 pub fn find_known(
     codes: &[i32],
     starts: &[usize],
@@ -120,7 +123,7 @@ pub fn find_known(
     places: &[usize],
     code: Code,
 ) -> Use
-    requires { ⌜ Room count (now codes) (now starts) (now widths) ⌝ }
+    requires { ⌜ CharacterRoom count (now codes) (now starts) (now widths) ⌝ }
     requires { ⌜ Latest (take count (now codes)) (now places) ⌝ }
     ensures { λ r. ⌜ ((es : List Entry) → count ≡ length es → Lists es (now (codes .entry)) (now (starts .entry)) (now (widths .entry)) → r ≡ used code es) ⌝ }
 {

@@ -1,4 +1,3 @@
 -- The laws of rows in a font that was read, and of the row request.
-pub mod PlaceLaws
 pub mod RowLaws
 pub mod RequestLaws

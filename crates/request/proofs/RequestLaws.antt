@@ -10,7 +10,7 @@ use lib.Dec.{ltb}
 use lib.IntN.{ℤ}
 use lib.ListN.{length}
 use borrow.Author.Tests.{lt-ltb, le-ltb, ltb-true, ltb-false}
-use Rattle.ground.specs.Refusals.{refusal, badShape}
+use Rattle.ground.specs.Refusals.{refusal, tooManyCharacters, badShape}
 use Rattle.ground.specs.declared.refusals.Refusal.{Refusal}
 use Rattle.ground.proofs.Tests.{clash}
 use Rattle.ground.specs.Limits.{maxCharacters}
@@ -18,7 +18,7 @@ use Rattle.subchars.specs.declared.Code.{Code}
 use Rattle.lines.specs.Lines.{after}
 use Rattle.header.specs.declared.Header.{Header}
 use Rattle.chars.specs.declared.Entry.{Entry}
-use Rattle.font.specs.Font.{Reading, says, refuses, reading}
+use Rattle.font.specs.Font.{FontReading, says, refuses, reading}
 use Rattle.font.proofs.ReadingLaws.{font-refusal}
 use Rattle.index.specs.Index.{Lists}
 use Rattle.reader.specs.declared.FontAnswer.{FontAnswer}
@@ -35,7 +35,7 @@ use Rattle.request.specs.Request.{inFont, sought, badRequest, rowOfSough
 use Rattle.request.proofs.RowLaws.{used-stands}
 
 -- A code is sought in the lists that were read.
-module _ (m : Reading) (c : Code) (r : FontAnswer) (codes : List ℤ) (starts widths : List ℕ) (i : ReadInto m r codes starts widths) where
+module _ (m : FontReading) (c : Code) (r : FontAnswer) (codes : List ℤ) (starts widths : List ℕ) (i : ReadInto m r codes starts widths) where
   module _ (h : Header) (n : ℕ) (p : r ≡ font-is.Read h n) where
     pub few : n ≤ maxCharacters
     few = omega (arith, read-says m h n (sym p ∙ i .answer) .count, i .lists .few)
@@ -49,15 +49,6 @@ module _ (m : Reading) (c : Code) (r : FontAnswer) (codes : List ℤ) (starts wi
   pub seek-unread : (q : Refusal) → r ≡ font-is.Refused q → sought-is.Unread q ≡ sought c m
   unfolding sought
   seek-unread q p = sym (ap (sought c) (unread-refuses m q (sym p ∙ i .answer)))
-
--- The number and the place of an answer, 0 for a row.
-number-of : Requested → ℕ
-number-of (Row p w) = 0
-number-of (Refused q) = q .number
-
-place-of : Requested → ℕ
-place-of (Row p w) = 0
-place-of (Refused q) = q .place
 
 module _ (s : List ℕ) (c : Code) (r : ℕ) where
   -- The row request from what is sought.
@@ -75,8 +66,8 @@ module _ (s : List ℕ) (c : Code) (r : ℕ) where
     row-high h x q =
         q ∙ sym (ap (λ (b : Bool). cond b (Row (after r s (e .start)) (e .width)) badRequest) (le-ltb r height h)) ∙ by-sought (sought-is.Found height e) f
 
-  pub row-missing : sought-is.Missing ≡ sought c (reading s) → (x : Requested) → x ≡ badRequest → x ≡ rowRequest s c r
-  row-missing f x q = q ∙ by-sought sought-is.Missing f
+  pub row-missing : sought-is.NoDrawing ≡ sought c (reading s) → (x : Requested) → x ≡ badRequest → x ≡ rowRequest s c r
+  row-missing f x q = q ∙ by-sought sought-is.NoDrawing f
 
   pub row-unread : (q : Refusal) → sought-is.Unread q ≡ sought c (reading s) → Refused q ≡ rowRequest s c r
   row-unread q f = by-sought (sought-is.Unread q) f
@@ -117,7 +108,7 @@ module _ (s : List ℕ) (c : Code) (r : ℕ) where
       by h es m (Used e) u = tall h es m e u (ltb r (h .height)) refl
       by h es m Nothing u = shape refl (missing h es m u)
 
-      go : (m : Reading) → reading s ≡ m → Answer (rowOfSought s r (sought c m))
+      go : (m : FontReading) → reading s ≡ m → Answer (rowOfSought s r (sought c m))
       go (says h es) m = by h es m (used c es) refl
       go (refuses q) m = of-font q refl m
 
@@ -136,7 +127,7 @@ module _ (s : List ℕ) (c : Code) (r : ℕ) where
   pub row-if : (p w : ℕ) → Given p w → rowRequest s c r ≡ Row p w
   unfolding rowRequest sought
   row-if p w g =
-      ap (λ (m : Reading). rowOfSought s r (sought c m)) (g .said) ∙
+      ap (λ (m : FontReading). rowOfSought s r (sought c m)) (g .said) ∙
       ap (λ (u : Use). rowOfSought s r (inFont (g .header .height) u)) (g .is-used) ∙
       ap (λ (b : Bool). cond b (Row (after r s (g .entry .start)) (g .entry .width)) badRequest) (lt-ltb r (g .header .height) (g .below)) ∙
       ap (λ (j : ℕ). Row j (g .entry .width)) (sym (g .place)) ∙
@@ -152,38 +143,36 @@ module _ (s : List ℕ) (c : Code) (r : ℕ) where
   -- 17, exactly then, at 0
   bad-shape : BadRequest → rowRequest s c r ≡ badRequest
   unfolding rowRequest sought
-  bad-shape (missing h es m u) = ap (λ (x : Reading). rowOfSought s r (sought c x)) m ∙ ap (λ (x : Use). rowOfSought s r (inFont (h .height) x)) u
-  bad-shape (high h es m k) = ap (λ (x : Reading). rowOfSought s r (sought c x)) m ∙ go (used c es)
+  bad-shape (missing h es m u) = ap (λ (x : FontReading). rowOfSought s r (sought c x)) m ∙ ap (λ (x : Use). rowOfSought s r (inFont (h .height) x)) u
+  bad-shape (high h es m k) = ap (λ (x : FontReading). rowOfSought s r (sought c x)) m ∙ go (used c es)
     where
       go : (u : Use) → rowOfSought s r (inFont (h .height) u) ≡ badRequest
       go (Used e) = ap (λ (b : Bool). cond b (Row (after r s (e .start)) (e .width)) badRequest) (le-ltb r (h .height) k)
       go Nothing = refl
 
   pub refused-17 : (p : ℕ) → rowRequest s c r ≡ Refused (refusal badShape p) ↔ ((p ≡ 0) × BadRequest)
-  unfolding number-of place-of
-  refused-17 p = (λ e. to e answer, λ w. bad-shape (w .1) ∙ ap (λ (j : ℕ). Refused (refusal badShape j)) (sym (w .0)))
+  refused-17 p = (λ e. to (refusal badShape p) refl e answer, λ w. bad-shape (w .1) ∙ ap (λ (j : ℕ). Refused (refusal badShape j)) (sym (w .0)))
     where
-      to : rowRequest s c r ≡ Refused (refusal badShape p) → Answer (rowRequest s c r) → (p ≡ 0) × BadRequest
-      to e (gives a b q g) = clash (cc)
-      to e (shape q b) = (ap place-of (sym e ∙ q), b)
-      to e (of-font z q m) = absurd (omega (arith, ap number-of (sym e ∙ q), font-refusal s z m .1))
+      to : (x : Refusal) → x .number ≡ badShape → rowRequest s c r ≡ Refused x → Answer (rowRequest s c r) → (x .place ≡ 0) × BadRequest
+      to x n e (gives a b q g) = clash (cc)
+      to x n e (shape q b) = (cc, b)
+      to x n e (of-font z q m) = let k : z .number ≡ x .number = cc in absurd (omega (arith, font-refusal s z m .1))
 
   -- the font's own refusals, exactly those of the font
-  pub refused-font : (q : Refusal) → q .number ≤ 8 → rowRequest s c r ≡ Refused q ↔ reading s ≡ refuses q
-  unfolding rowRequest sought number-of
-  refused-font q h = (λ e. to e answer, λ m. ap (λ (x : Reading). rowOfSought s r (sought c x)) m)
+  pub refused-font : (q : Refusal) → q .number ≤ tooManyCharacters → rowRequest s c r ≡ Refused q ↔ reading s ≡ refuses q
+  unfolding rowRequest sought
+  refused-font q h = (λ e. to e answer, λ m. ap (λ (x : FontReading). rowOfSought s r (sought c x)) m)
     where
       to : rowRequest s c r ≡ Refused q → Answer (rowRequest s c r) → reading s ≡ refuses q
       to e (gives a b p g) = clash (cc)
-      to e (shape p b) = absurd (omega (arith, ap number-of (sym e ∙ p)))
+      to e (shape p b) = let k : q .number ≡ badShape = cc in absurd (omega arith)
       to e (of-font z p m) = let y : z ≡ q = cc in m ∙ ap refuses y
 
   -- no refusal has the number 0
   pub refused-some : (q : Refusal) → rowRequest s c r ≡ Refused q → 1 ≤ q .number
-  unfolding number-of
   refused-some q e = go answer
     where
       go : Answer (rowRequest s c r) → 1 ≤ q .number
       go (gives a b p g) = clash (cc)
-      go (shape p b) = omega (arith, ap number-of (sym e ∙ p))
-      go (of-font z p m) = omega (arith, ap number-of (sym e ∙ p), font-refusal s z m .0)
+      go (shape p b) = let k : q .number ≡ badShape = cc in omega arith
+      go (of-font z p m) = let k : z .number ≡ q .number = cc in omega (arith, font-refusal s z m .0)

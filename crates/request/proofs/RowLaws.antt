@@ -1,25 +1,22 @@
 -- The rows of a font that was read: each row of each character stands on a line of the font, and is a part of the font.
 -- Assumes nothing.
 use mathlib.Core.Path.{_≡_, refl, sym, ap, _∙_, subst}
-use mathlib.Core.Bool.{Bool, true, false, cond}
 use mathlib.Core.List.{List, [], _∷_}
 use Prim.Native.Nat.{ℕ, zero, suc, _+_, _-_, _≤_, _<_}
 use native.Mathlib.Omega.{arith}
-use lib.Dec.{ltb}
 use lib.ListN.{length, take, drop, length-drop}
 use lib.Seq.{take-take, length-take-le}
-use borrow.Author.Tests.{ltb-true, ltb-false, eqb-true}
 use Rattle.ground.proofs.Tests.{clash, and-left, and-right}
 use Rattle.subchars.specs.declared.Code.{Code}
 use Rattle.lines.specs.Lines.{TextLine, line, linesFrom, lineEnd, textAt, nextStart, after}
-use Rattle.lines.proofs.LineLaws.{lines-none, lines-next, line-end-le}
+use Rattle.lines.proofs.PlaceLaws.{after-add}
+use Rattle.lines.proofs.LineLaws.{some-line, lines-next, line-end-le}
 use Rattle.header.specs.declared.Header.{Header}
 use Rattle.rows.specs.declared.Format.{Format}
-use Rattle.rows.specs.declared.RowStep.{RowStep}
-use Rattle.rows.specs.declared.RowStep.the-variants.{Width, BadRow}
-use Rattle.rows.specs.Rows.{row, goodLine, rowOf, hasWidth, lineCount}
+use Rattle.rows.specs.declared.RowStep.the-variants.{Width}
+use Rattle.rows.specs.Rows.{row, rowOf, hasWidth, lineCount}
 use Rattle.rows.proofs.BlockLaws.{row-prefix, row-le}
-use Rattle.rows.proofs.LineLaws.{width-less}
+use Rattle.rows.proofs.LineLaws.{row-width, has-width, width-less}
 use Rattle.rows.proofs.RowLaws.{rowsHave, AllRead}
 use Rattle.chars.specs.declared.Entry.{Entry}
 use Rattle.chars.proofs.EntryLaws.{Stands, here, further, EachStands, none, one}
@@ -28,7 +25,6 @@ use Rattle.font.proofs.ReadingLaws.{font-read}
 use Rattle.reader.specs.declared.Use.the-variants.{Used}
 use Rattle.reader.specs.Reader.{entryAt, used}
 use Rattle.reader.proofs.UseLaws.{used-at}
-use Rattle.request.proofs.PlaceLaws.{after-add}
 
 -- A row of width w stands on the line that starts at a place.
 pub record RowStands (f : Format) (s : List ℕ) (w at : ℕ) : Type 0 where
@@ -38,14 +34,6 @@ pub record RowStands (f : Format) (s : List ℕ) (w at : ℕ) : Type 0 where
   pub ends : at + w ≤ lineEnd s at
   pub fits : at + w ≤ length s
   pub bytes : take w (drop at s) ≡ row (textAt s at)
-
-row-width : (f : Format) (t : List ℕ) (w : ℕ) → rowOf f t ≡ Width w → w ≡ length (row t)
-unfolding rowOf
-row-width f t w e = go (goodLine f t) e
-  where
-    go : (b : Bool) → cond b (Width (length (row t))) BadRow ≡ Width w → w ≡ length (row t)
-    go true p = cc
-    go false p = clash (cc)
 
 -- a line with a row of width w
 on-line : (f : Format) (s : List ℕ) (w at : ℕ) → at < length s → rowOf f (textAt s at) ≡ Width w → RowStands f s w at
@@ -63,18 +51,6 @@ on-line f s w at h e =
       fits = omega (arith, b, k);
       bytes = sym (take-take w n (drop at s) b) ∙ ap (λ (j : ℕ). take j (textAt s at)) v ∙ row-prefix (textAt s at);
     }
-
-has-width : (r : RowStep) (w : ℕ) → hasWidth r w ≡ true → r ≡ Width w
-has-width (Width v) w e = ap Width (eqb-true v w e)
-has-width BadRow w e = clash (cc)
-
--- A line at a place, from the lines there.
-some-line : (s : List ℕ) (at : ℕ) → 0 < length (linesFrom s at) → at < length s
-some-line s at h = go (ltb at (length s)) refl
-  where
-    go : (b : Bool) → ltb at (length s) ≡ b → at < length s
-    go true e = ltb-true at (length s) e
-    go false e = absurd (omega (arith, ap length (lines-none s at (ltb-false at (length s) e))))
 
 -- Rows that are read, one after another.
 all-stand : (f : Format) (s : List ℕ) (w r k at : ℕ) → r < k → AllRead f w k (linesFrom s at) → RowStands f s w (after r s at)

@@ -4,19 +4,17 @@ use ground::limits;
 use ground::refusals;
 use ground::refusals::Refusal;
 use lines::Cursor;
-use lines::LineStep;
 use reader::FontAnswer;
 use reader::Use;
 use subchars::Code;
 ghost use mathlib.Core.Path.{_≡_};
-ghost use Rattle.lines.specs.Lines.{after};
 ghost use Rattle.font.specs.Font.{reading};
 ghost use Rattle.request.specs.Request.{sought, badRequest, rowRequest};
 
 // The character that a font has for a code, with the font's height, or the font's refusal.
 pub enum Sought {
     Found { height: usize, entry: Entry },
-    Missing,
+    NoDrawing,
     Unread(Refusal),
 }
 
@@ -24,31 +22,6 @@ pub enum Sought {
 pub enum Requested {
     Row { place: usize, width: usize },
     Refused(Refusal),
-}
-
-// Where a row of a character starts: that many lines behind its first row line.
-pub fn row_place(font: &[u8], start: usize, row: usize) -> usize
-    ensures { λ r. ⌜ r ≡ after row (now (font .entry)) start ⌝ }
-{
-    let mut at = start;
-    let mut left = row;
-    while 0 < left {
-        let cursor = Cursor { at };
-        match cursor.next(font) {
-            LineStep::Line {
-                start: _,
-                end: _,
-                next,
-            } => {
-                at = next.at;
-            }
-            LineStep::NoLine => {
-                return at;
-            }
-        }
-        left -= 1;
-    }
-    at
 }
 
 // Reads a font, and looks a code up in it.
@@ -63,7 +36,7 @@ pub fn seek(font: &[u8], code: Code) -> Sought
             let height = header.height;
             match reader::find_entry(&codes, &starts, &widths, count, code) {
                 Use::Used(entry) => Sought::Found { height, entry },
-                Use::Nothing => Sought::Missing,
+                Use::Nothing => Sought::NoDrawing,
             }
         }
         FontAnswer::Refused(r) => Sought::Unread(r),
@@ -79,21 +52,24 @@ fn bad_request() -> Requested
     })
 }
 
-// The row of a character, from the line where it starts.
+// Where a row stands: as many lines behind the character's first row line as the row number says.
 pub fn request(font: &[u8], code: Code, row: usize) -> Requested
     ensures { λ r. ⌜ r ≡ rowRequest (now (font .entry)) code row ⌝ }
 {
     match seek(font, code) {
         Sought::Found { height, entry } => {
             if row < height {
-                let start = entry.start;
-                let width = entry.width;
-                let place = row_place(font, start, row);
-                return Requested::Row { place, width };
+                let first = Cursor { at: entry.start };
+                let skipped = first.skip(font, row);
+                let next = skipped.next;
+                return Requested::Row {
+                    place: next.at,
+                    width: entry.width,
+                };
             }
             bad_request()
         }
-        Sought::Missing => bad_request(),
+        Sought::NoDrawing => bad_request(),
         Sought::Unread(r) => Requested::Refused(r),
     }
 }

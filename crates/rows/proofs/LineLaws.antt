@@ -8,13 +8,13 @@ use Prim.Native.Nat.{ℕ, zero, suc, _≤_, _<_}
 use native.Mathlib.Omega.{arith}
 use lib.Dec.{ltb, leb}
 use lib.ListN.{length, take}
-use borrow.Author.Tests.{lt-ltb, le-ltb, le-leb, lt-leb, ltb-true, ltb-false, leb-false, eqb-false, ne-eqb}
+use borrow.Author.Tests.{lt-ltb, le-ltb, le-leb, lt-leb, ltb-true, ltb-false, leb-false, eqb-true, eqb-false, ne-eqb}
 use Rattle.ground.specs.Runs.{all}
 use Rattle.ground.proofs.Tests.{and-left-false, and-right-false, clash}
 use Rattle.rows.specs.declared.Format.{Format}
 use Rattle.rows.specs.declared.RowStep.{RowStep}
 use Rattle.rows.specs.declared.RowStep.the-variants.{Width, BadRow}
-use Rattle.rows.specs.Rows.{row, legal, goodLine, rowOf, hasWidth}
+use Rattle.rows.specs.Rows.{row, legalByte, goodLine, rowOf, hasWidth}
 use Rattle.rows.proofs.BlockLaws.{row-prefix, row-le, row-less}
 
 -- The reasons of refusal 6 that a line has by itself: "the line is empty, is longer than Max_Length with its marks, .. or its row holds a byte
@@ -22,7 +22,7 @@ use Rattle.rows.proofs.BlockLaws.{row-prefix, row-le, row-less}
 pub data BadLine (f : Format) (t : List ℕ) : Type 0 where
   empty : length t ≡ 0 → BadLine f t
   long : f .«max_length» < length t → BadLine f t
-  low : all (legal (f .hardblank .0)) (row t) ≡ false → BadLine f t
+  low : all (legalByte (f .hardblank .0)) (row t) ≡ false → BadLine f t
 
 module _ (f : Format) (t : List ℕ) where
   bad-line : BadLine f t → goodLine f t ≡ false
@@ -33,9 +33,9 @@ module _ (f : Format) (t : List ℕ) where
 
   only-bad : goodLine f t ≡ false → BadLine f t
   unfolding goodLine
-  only-bad e = go (ltb 0 (length t)) refl (leb (length t) (f .«max_length»)) refl (all (legal (f .hardblank .0)) (row t)) refl e
+  only-bad e = go (ltb 0 (length t)) refl (leb (length t) (f .«max_length»)) refl (all (legalByte (f .hardblank .0)) (row t)) refl e
     where
-      go : (a : Bool) → ltb 0 (length t) ≡ a → (b : Bool) → leb (length t) (f .«max_length») ≡ b → (c : Bool) → all (legal (f .hardblank .0)) (row t) ≡ c → (a && b && c) ≡ false → BadLine f t
+      go : (a : Bool) → ltb 0 (length t) ≡ a → (b : Bool) → leb (length t) (f .«max_length») ≡ b → (c : Bool) → all (legalByte (f .hardblank .0)) (row t) ≡ c → (a && b && c) ≡ false → BadLine f t
       go false p b q c r x = empty (omega (arith, ltb-false 0 (length t) p))
       go true p false q c r x = long (leb-false (length t) (f .«max_length») q)
       go true p true q c r x = low (r ∙ x)
@@ -61,22 +61,34 @@ module _ (f : Format) (t : List ℕ) where
     pub width-le : k ≤ length t
     width-le = omega (arith, row-le t)
 
-    pub row-low : all (legal (f .hardblank .0)) (take k t) ≡ false → BadRow ≡ rowOf f t
-    row-low p = row-bad (low (ap (all (legal (f .hardblank .0))) (sym row-part) ∙ p))
+    pub row-low : all (legalByte (f .hardblank .0)) (take k t) ≡ false → BadRow ≡ rowOf f t
+    row-low p = row-bad (low (ap (all (legalByte (f .hardblank .0))) (sym row-part) ∙ p))
 
-    pub row-good : (length t ≡ 0 → ⊥) → length t ≤ f .«max_length» → all (legal (f .hardblank .0)) (take k t) ≡ true → Width k ≡ rowOf f t
+    pub row-good : (length t ≡ 0 → ⊥) → length t ≤ f .«max_length» → all (legalByte (f .hardblank .0)) (take k t) ≡ true → Width k ≡ rowOf f t
     unfolding rowOf goodLine
     row-good h l p =
-        simp (lt-ltb 0 (length t) (some (length t) h), le-leb (length t) (f .«max_length») l, ap (all (legal (f .hardblank .0))) (sym row-part) ∙ p) (ap Width e)
+        simp (lt-ltb 0 (length t) (some (length t) h), le-leb (length t) (f .«max_length») l, ap (all (legalByte (f .hardblank .0))) (sym row-part) ∙ p) (ap Width e)
       where
         some : (n : ℕ) → (n ≡ 0 → ⊥) → 0 < n
         some zero q = absurd (q refl)
         some (suc n) q = omega arith
 
--- A row is shorter than its line.
+-- A line that holds a row: its width is the row's, and a row is shorter than its line.
+pub row-width : (f : Format) (t : List ℕ) (w : ℕ) → rowOf f t ≡ Width w → w ≡ length (row t)
+unfolding rowOf
+row-width f t w e = go (goodLine f t) e
+  where
+    go : (b : Bool) → cond b (Width (length (row t))) BadRow ≡ Width w → w ≡ length (row t)
+    go true p = cc
+    go false p = clash (cc)
+
+pub has-width : (r : RowStep) (w : ℕ) → hasWidth r w ≡ true → r ≡ Width w
+has-width (Width v) w e = ap Width (eqb-true v w e)
+has-width BadRow w e = clash (cc)
+
 pub width-less : (f : Format) (t : List ℕ) (w : ℕ) → rowOf f t ≡ Width w → w < length t
 unfolding rowOf goodLine
-width-less f t w e = go (ltb 0 (length t)) refl (leb (length t) (f .«max_length»)) (all (legal (f .hardblank .0)) (row t)) e
+width-less f t w e = go (ltb 0 (length t)) refl (leb (length t) (f .«max_length»)) (all (legalByte (f .hardblank .0)) (row t)) e
   where
     go : (a : Bool) → ltb 0 (length t) ≡ a → (b c : Bool) → cond (a && b && c) (Width (length (row t))) BadRow ≡ Width w → w < length t
     go true p true true x = let q : length (row t) ≡ w = cc in omega (arith, row-less t (ltb-true 0 (length t) p))

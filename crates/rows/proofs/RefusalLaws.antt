@@ -1,173 +1,95 @@
--- A character's rows are refused with 5 exactly when good lines run out, and with 6 exactly at the first line that is bad.
+-- A character's rows are refused exactly at the first line that is missing, with 5, or bad, with 6.
 -- Assumes nothing.
-use mathlib.Core.Path.{_≡_, refl, sym, ap, _∙_}
-use mathlib.Core.Bool.{Bool, true, false, cond, _&&_}
+use mathlib.Core.Path.{_≡_, refl, ap, _∙_, subst}
+use mathlib.Core.Bool.{Bool, true, false, cond}
 use mathlib.Core.List.{List, [], _∷_}
 use mathlib.Core.Logic.{_↔_}
-use Prim.Native.Nat.{ℕ, zero, suc, _-_, _≤_, _<_}
+use Prim.Native.Nat.{ℕ, zero, suc, _-_, _≤_}
 use native.Mathlib.Omega.{arith}
-use lib.ListN.{length}
-use borrow.Author.Tests.{eq-eqb, eqb-true}
+use borrow.Author.Tests.{eq-eqb}
 use Rattle.ground.specs.Refusals.{refusal, missingLine, badRow}
 use Rattle.ground.specs.declared.refusals.Refusal.{Refusal}
-use Rattle.ground.proofs.Tests.{and-left, and-right, and-both, clash}
+use Rattle.ground.proofs.Tests.{clash}
 use Rattle.lines.specs.Lines.{TextLine}
 use Rattle.lines.proofs.StartLaws.{Starting, start-first, start-rest}
 use Rattle.rows.specs.declared.Format.{Format}
 use Rattle.rows.specs.declared.RowStep.{RowStep}
 use Rattle.rows.specs.declared.RowStep.the-variants.{Width, BadRow}
-use Rattle.rows.specs.Rows.{rowOf, Rows, read, refused, hasWidth, rowsOn, otherRows, character, lineCount}
-use Rattle.rows.proofs.LineLaws.{BadLine, bad-exactly, BadRowLine, width-exactly}
-use Rattle.rows.proofs.RowLaws.{rowsHave}
+use Rattle.rows.specs.Rows.{rowOf, refused, hasWidth, rowsOn, otherRows, characterRows}
+use Rattle.rows.proofs.LineLaws.{BadLine, bad-exactly, BadRowLine, has-width, width-exactly}
 
--- A refusal is known by its number and its place.
-number-of : Rows → ℕ
-number-of (read w) = 0
-number-of (refused r) = r .number
+-- Where k rows of width w are due behind a character's first: the line at which they are refused.
+pub data RowsStop (f : Format) (size w : ℕ) : ℕ → List TextLine → Refusal → Type 0 where
+  -- 5: "font ends before a needed line", at the "font length"
+  other-missing : {k : ℕ} → RowsStop f size w (suc k) [] (refusal missingLine size)
+  -- 6: "the line is empty, is longer than Max_Length with its marks, its row differs in width from the character's first row, or its row holds a
+  -- byte under 32 that is not the hardblank", at the "start of that line"
+  other-bad : {k : ℕ} {l : TextLine} {ls : List TextLine} → BadRowLine f w (l .text) → RowsStop f size w (suc k) (l ∷ ls) (refusal badRow (l .start))
+  -- a line that holds a row of that width, and behind it
+  past-other : {k : ℕ} {l : TextLine} {ls : List TextLine} {r : Refusal} → rowOf f (l .text) ≡ Width w → RowsStop f size w k ls r → RowsStop f size w (suc k) (l ∷ ls) r
 
-place-of : Rows → ℕ
-place-of (read w) = 0
-place-of (refused r) = r .place
-
--- 6 at place p, where k rows of width w are due: the first bad line starts there.
-pub data RowsBad (f : Format) (w p : ℕ) : ℕ → List TextLine → Type 0 where
-  here : {k : ℕ} {l : TextLine} {ls : List TextLine} → BadRowLine f w (l .text) → p ≡ l .start → RowsBad f w p (suc k) (l ∷ ls)
-  later : {k : ℕ} {l : TextLine} {ls : List TextLine} → hasWidth (rowOf f (l .text)) w ≡ true → RowsBad f w p k ls → RowsBad f w p (suc k) (l ∷ ls)
-
-pub data CharacterBad (f : Format) (p : ℕ) : List TextLine → Type 0 where
-  first : {l : TextLine} {ls : List TextLine} → BadLine f (l .text) → p ≡ l .start → CharacterBad f p (l ∷ ls)
-  other : {l : TextLine} {ls : List TextLine} (w : ℕ) → rowOf f (l .text) ≡ Width w → RowsBad f w p (f .height - 1) ls → CharacterBad f p (l ∷ ls)
+-- Where a character's rows are due.
+pub data CharacterStops (f : Format) (size : ℕ) : List TextLine → Refusal → Type 0 where
+  -- 5, at the "font length"
+  first-missing : CharacterStops f size [] (refusal missingLine size)
+  -- 6, of the first row: it has no other to differ from
+  first-bad : {l : TextLine} {ls : List TextLine} → BadLine f (l .text) → CharacterStops f size (l ∷ ls) (refusal badRow (l .start))
+  -- a first line that holds a row, and behind it the other lines of the Height
+  past-first : {l : TextLine} {ls : List TextLine} {r : Refusal} (w : ℕ) → rowOf f (l .text) ≡ Width w → RowsStop f size w (f .height - 1) ls r → CharacterStops f size (l ∷ ls) r
 
 module _ (f : Format) (size : ℕ) where
-  only-bad : (k w p : ℕ) (ls : List TextLine) → rowsOn f size k w ls ≡ refused (refusal badRow p) → RowsBad f w p k ls
-  unfolding rowsOn number-of place-of
-  only-bad zero w p ls e = clash (cc)
-  only-bad (suc k) w p [] e = absurd (six (ap number-of e))
-    where
-      six : _≡_ {A = ℕ} 5 6 → ⊥
-      six n = omega arith
-  only-bad (suc k) w p (l ∷ ls) e = go (hasWidth (rowOf f (l .text)) w) refl e (only-bad k w p ls)
-    where
-      go : (b : Bool) → hasWidth (rowOf f (l .text)) w ≡ b → cond b (rowsOn f size k w ls) (refused (refusal badRow (l .start))) ≡ refused (refusal badRow p) →
-          (rowsOn f size k w ls ≡ refused (refusal badRow p) → RowsBad f w p k ls) → RowsBad f w p (suc k) (l ∷ ls)
-      go true q r more = later q (more r)
-      go false q r more = here (width-exactly f w (l .text) .0 q) (sym (ap place-of r))
-
-  is-bad : (k w p : ℕ) (ls : List TextLine) → RowsBad f w p k ls → rowsOn f size k w ls ≡ refused (refusal badRow p)
+  only-rows : (k w : ℕ) (ls : List TextLine) (r : Refusal) → rowsOn f size k w ls ≡ refused r → RowsStop f size w k ls r
   unfolding rowsOn
-  is-bad (suc k) w p (l ∷ ls) (here b e) = simp (width-exactly f w (l .text) .1 b) (ap (λ (j : ℕ). refused (refusal badRow j)) (sym e))
-  is-bad (suc k) w p (l ∷ ls) (later q b) = simp q (is-bad k w p ls b)
-
-  -- 6: "bad row", at the "start of that line"
-  pub refused-6 : (p : ℕ) (ls : List TextLine) → character f size ls ≡ refused (refusal badRow p) ↔ CharacterBad f p ls
-  unfolding character number-of place-of
-  refused-6 p ls = (to ls, from ls)
+  only-rows zero w ls r e = clash (cc)
+  only-rows (suc k) w [] r e = let p : refusal missingLine size ≡ r = cc in subst (RowsStop f size w (suc k) []) p other-missing
+  only-rows (suc k) w (l ∷ ls) r e = go (hasWidth (rowOf f (l .text)) w) refl e (only-rows k w ls r)
     where
-      split : (l : TextLine) (ls : List TextLine) (r : RowStep) → rowOf f (l .text) ≡ r → otherRows f size (l .start) r ls ≡ refused (refusal badRow p) → CharacterBad f p (l ∷ ls)
-      split l ls (Width w) q e = other w q (only-bad (f .height - 1) w p ls e)
-      split l ls BadRow q e = first (bad-exactly f (l .text) .0 q) (sym (ap place-of e))
+      go : (b : Bool) → hasWidth (rowOf f (l .text)) w ≡ b → cond b (rowsOn f size k w ls) (refused (refusal badRow (l .start))) ≡ refused r →
+          (rowsOn f size k w ls ≡ refused r → RowsStop f size w k ls r) → RowsStop f size w (suc k) (l ∷ ls) r
+      go true q x more = past-other {l = l} (has-width (rowOf f (l .text)) w q) (more x)
+      go false q x more =
+          let p : refusal badRow (l .start) ≡ r = cc in
+          subst (RowsStop f size w (suc k) (l ∷ ls)) p (other-bad {l = l} (width-exactly f w (l .text) .0 q))
 
-      five : _≡_ {A = ℕ} 5 6 → ⊥
-      five n = omega arith
+  rows-stopped : (k w : ℕ) (ls : List TextLine) (r : Refusal) → RowsStop f size w k ls r → rowsOn f size k w ls ≡ refused r
+  unfolding rowsOn
+  rows-stopped (suc k) w [] _ other-missing = refl
+  rows-stopped (suc k) w (l ∷ ls) _ (other-bad b) = simp (width-exactly f w (l .text) .1 b)
+  rows-stopped (suc k) w (l ∷ ls) r (past-other e s) =
+      let q : hasWidth (rowOf f (l .text)) w ≡ true = ap (λ (x : RowStep). hasWidth x w) e ∙ eq-eqb w w refl in
+      simp q (rows-stopped k w ls r s)
 
-      to : (ls : List TextLine) → character f size ls ≡ refused (refusal badRow p) → CharacterBad f p ls
-      to [] e = absurd (five (ap number-of e))
-      to (l ∷ ls) e = split l ls (rowOf f (l .text)) refl e
-
-      from : (ls : List TextLine) → CharacterBad f p ls → character f size ls ≡ refused (refusal badRow p)
-      from (l ∷ ls) (first b e) =
-          ap (λ (r : RowStep). otherRows f size (l .start) r ls) (bad-exactly f (l .text) .1 b) ∙ ap (λ (j : ℕ). refused (refusal badRow j)) (sym e)
-      from (l ∷ ls) (other w q b) = ap (λ (r : RowStep). otherRows f size (l .start) r ls) q ∙ is-bad (f .height - 1) w p ls b
-
-  -- 5, where k rows of width w are due
-  only-missing : (k w p : ℕ) (ls : List TextLine) → rowsOn f size k w ls ≡ refused (refusal missingLine p) → (p ≡ size) × (length ls < k) × (rowsHave f w ls ≡ true)
-  unfolding rowsOn rowsHave number-of place-of
-  only-missing zero w p ls e = clash (cc)
-  only-missing (suc k) w p [] e = (sym (ap place-of e), omega arith, refl)
-  only-missing (suc k) w p (l ∷ ls) e = go (hasWidth (rowOf f (l .text)) w) refl e (only-missing k w p ls)
+  only-character : (ls : List TextLine) (r : Refusal) → characterRows f size ls ≡ refused r → CharacterStops f size ls r
+  unfolding characterRows
+  only-character [] r e = let p : refusal missingLine size ≡ r = cc in subst (CharacterStops f size []) p first-missing
+  only-character (l ∷ ls) r e = go (rowOf f (l .text)) refl e
     where
-      six : _≡_ {A = ℕ} 6 5 → ⊥
-      six n = omega arith
+      go : (x : RowStep) → rowOf f (l .text) ≡ x → otherRows f size (l .start) x ls ≡ refused r → CharacterStops f size (l ∷ ls) r
+      go (Width w) p q = past-first {l = l} w p (only-rows (f .height - 1) w ls r q)
+      go BadRow p q =
+          let d : refusal badRow (l .start) ≡ r = cc in
+          subst (CharacterStops f size (l ∷ ls)) d (first-bad {l = l} (bad-exactly f (l .text) .0 p))
 
-      go : (b : Bool) → hasWidth (rowOf f (l .text)) w ≡ b → cond b (rowsOn f size k w ls) (refused (refusal badRow (l .start))) ≡ refused (refusal missingLine p) →
-          (rowsOn f size k w ls ≡ refused (refusal missingLine p) → (p ≡ size) × (length ls < k) × (rowsHave f w ls ≡ true)) →
-          (p ≡ size) × (suc (length ls) < suc k) × ((hasWidth (rowOf f (l .text)) w && rowsHave f w ls) ≡ true)
-      go true q r more = let m = more r in (m .0, omega (arith, m .1), and-both (hasWidth (rowOf f (l .text)) w) (rowsHave f w ls) q (m .2))
-      go false q r more = absurd (six (ap number-of r))
+  character-stopped : (ls : List TextLine) (r : Refusal) → CharacterStops f size ls r → characterRows f size ls ≡ refused r
+  unfolding characterRows
+  character-stopped [] _ first-missing = refl
+  character-stopped (l ∷ ls) _ (first-bad b) = ap (λ (x : RowStep). otherRows f size (l .start) x ls) (bad-exactly f (l .text) .1 b)
+  character-stopped (l ∷ ls) r (past-first w e s) = ap (λ (x : RowStep). otherRows f size (l .start) x ls) e ∙ rows-stopped (f .height - 1) w ls r s
 
-  is-missing : (k w : ℕ) (ls : List TextLine) → length ls < k → rowsHave f w ls ≡ true → rowsOn f size k w ls ≡ refused (refusal missingLine size)
-  unfolding rowsOn rowsHave
-  is-missing zero w ls h e = absurd (omega arith)
-  is-missing (suc k) w [] h e = refl
-  is-missing (suc k) w (l ∷ ls) h e =
-      simp (and-left (hasWidth (rowOf f (l .text)) w) (rowsHave f w ls) e) (is-missing k w ls (omega arith) (and-right (hasWidth (rowOf f (l .text)) w) (rowsHave f w ls) e))
+  -- 5 and 6: a character's rows are refused exactly so
+  pub character-exactly : (ls : List TextLine) (r : Refusal) → characterRows f size ls ≡ refused r ↔ CharacterStops f size ls r
+  character-exactly ls r = (only-character ls r, character-stopped ls r)
 
-  -- 5: "font ends before a needed line", at the "font length": there are under Height lines, and all hold rows of one width
-  pub refused-5 : (p : ℕ) (ls : List TextLine) → character f size ls ≡ refused (refusal missingLine p) ↔ ((w : ℕ) × (p ≡ size) × (length ls < lineCount f) × (rowsHave f w ls ≡ true))
-  unfolding character rowsHave number-of place-of
-  refused-5 p ls = (to ls, from ls)
-    where
-      six : _≡_ {A = ℕ} 6 5 → ⊥
-      six n = omega arith
+  -- with no other number, at a line's start or at the font's length
+  abbrev Inside : Refusal → Type 0
+  Inside r = (missingLine ≤ r .number) × (r .number ≤ badRow) × (r .place ≤ size)
 
-      split : (l : TextLine) (ls : List TextLine) (r : RowStep) → rowOf f (l .text) ≡ r → otherRows f size (l .start) r ls ≡ refused (refusal missingLine p) →
-          (w : ℕ) × (p ≡ size) × (suc (length ls) < lineCount f) × ((hasWidth (rowOf f (l .text)) w && rowsHave f w ls) ≡ true)
-      split l ls (Width w) q e =
-          let m = only-missing (f .height - 1) w p ls e in
-          (w, m .0, omega (arith, m .1), and-both (hasWidth (rowOf f (l .text)) w) (rowsHave f w ls) (ap (λ (r : RowStep). hasWidth r w) q ∙ eq-eqb w w refl) (m .2))
-      split l ls BadRow q e = absurd (six (ap number-of e))
+  rows-inside : (k w : ℕ) (ls : List TextLine) (r : Refusal) → Starting size ls → RowsStop f size w k ls r → Inside r
+  rows-inside (suc k) w [] _ t other-missing = (omega arith, omega arith, omega arith)
+  rows-inside (suc k) w (l ∷ ls) _ t (other-bad b) = (omega arith, omega arith, start-first size l ls t)
+  rows-inside (suc k) w (l ∷ ls) r t (past-other e s) = rows-inside k w ls r (start-rest size l ls t) s
 
-      to : (ls : List TextLine) → character f size ls ≡ refused (refusal missingLine p) → (w : ℕ) × (p ≡ size) × (length ls < lineCount f) × (rowsHave f w ls ≡ true)
-      to [] e = (0, sym (ap place-of e), omega arith, refl)
-      to (l ∷ ls) e = split l ls (rowOf f (l .text)) refl e
-
-      join : (l : TextLine) (ls : List TextLine) (w : ℕ) (r : RowStep) → length ls < f .height - 1 → hasWidth r w ≡ true → rowsHave f w ls ≡ true → otherRows f size (l .start) r ls ≡ refused (refusal missingLine size)
-      join l ls w (Width v) h e q =
-          ap (λ (j : ℕ). rowsOn f size (f .height - 1) j ls) (eqb-true v w e) ∙ is-missing (f .height - 1) w ls h q
-      join l ls w BadRow h e q = clash (cc)
-
-      from : (ls : List TextLine) → (w : ℕ) × (p ≡ size) × (length ls < lineCount f) × (rowsHave f w ls ≡ true) → character f size ls ≡ refused (refusal missingLine p)
-      from [] m = ap (λ (j : ℕ). refused (refusal missingLine j)) (sym (m .1))
-      from (l ∷ ls) m =
-          join l ls (m .0) (rowOf f (l .text)) (omega (arith, m .2)) (and-left (hasWidth (rowOf f (l .text)) (m .0)) (rowsHave f (m .0) ls) (m .3)) (and-right (hasWidth (rowOf f (l .text)) (m .0)) (rowsHave f (m .0) ls) (m .3)) ∙
-          ap (λ (j : ℕ). refused (refusal missingLine j)) (sym (m .1))
-
-  -- rows are refused with no other number
-  rows-numbers : (k w : ℕ) (ls : List TextLine) (r : Refusal) → rowsOn f size k w ls ≡ refused r → (5 ≤ r .number) × (r .number ≤ 6)
-  unfolding rowsOn number-of
-  rows-numbers zero w ls r e = clash (cc)
-  rows-numbers (suc k) w [] r e = let n = ap number-of e in (omega arith, omega arith)
-  rows-numbers (suc k) w (l ∷ ls) r e = go (hasWidth (rowOf f (l .text)) w) e (rows-numbers k w ls r)
-    where
-      go : (b : Bool) → cond b (rowsOn f size k w ls) (refused (refusal badRow (l .start))) ≡ refused r → (rowsOn f size k w ls ≡ refused r → (5 ≤ r .number) × (r .number ≤ 6)) → (5 ≤ r .number) × (r .number ≤ 6)
-      go true q more = more q
-      go false q more = let n = ap number-of q in (omega arith, omega arith)
-
-  pub refused-numbers : (ls : List TextLine) (r : Refusal) → character f size ls ≡ refused r → (5 ≤ r .number) × (r .number ≤ 6)
-  unfolding character number-of
-  refused-numbers [] r e = let n = ap number-of e in (omega arith, omega arith)
-  refused-numbers (l ∷ ls) r e = go (rowOf f (l .text)) e
-    where
-      go : (x : RowStep) → otherRows f size (l .start) x ls ≡ refused r → (5 ≤ r .number) × (r .number ≤ 6)
-      go (Width w) q = rows-numbers (f .height - 1) w ls r q
-      go BadRow q = let n = ap number-of q in (omega arith, omega arith)
-
-  -- their place is a line's start or the font's length
-  rows-place : (k w : ℕ) (ls : List TextLine) (r : Refusal) → Starting size ls → rowsOn f size k w ls ≡ refused r → r .place ≤ size
-  unfolding rowsOn place-of
-  rows-place zero w ls r s e = clash (cc)
-  rows-place (suc k) w [] r s e = let p = ap place-of e in omega arith
-  rows-place (suc k) w (l ∷ ls) r s e = go (hasWidth (rowOf f (l .text)) w) e (rows-place k w ls r (start-rest size l ls s))
-    where
-      go : (b : Bool) → cond b (rowsOn f size k w ls) (refused (refusal badRow (l .start))) ≡ refused r → (rowsOn f size k w ls ≡ refused r → r .place ≤ size) → r .place ≤ size
-      go true q more = more q
-      go false q more = omega (arith, ap place-of q, start-first size l ls s)
-
-  pub refused-place : (ls : List TextLine) (r : Refusal) → Starting size ls → character f size ls ≡ refused r → r .place ≤ size
-  unfolding character place-of
-  refused-place [] r s e = let p = ap place-of e in omega arith
-  refused-place (l ∷ ls) r s e = go (rowOf f (l .text)) e
-    where
-      go : (x : RowStep) → otherRows f size (l .start) x ls ≡ refused r → r .place ≤ size
-      go (Width w) q = rows-place (f .height - 1) w ls r (start-rest size l ls s) q
-      go BadRow q = omega (arith, ap place-of q, start-first size l ls s)
+  pub character-inside : (ls : List TextLine) (r : Refusal) → Starting size ls → CharacterStops f size ls r → Inside r
+  character-inside [] _ t first-missing = (omega arith, omega arith, omega arith)
+  character-inside (l ∷ ls) _ t (first-bad b) = (omega arith, omega arith, start-first size l ls t)
+  character-inside (l ∷ ls) r t (past-first w e s) = rows-inside (f .height - 1) w ls r (start-rest size l ls t) s

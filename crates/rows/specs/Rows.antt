@@ -19,13 +19,13 @@ row [] = []
 row (x ∷ xs) = cond (all (eqb x) xs) [] (x ∷ row xs)
 
 -- "A byte under 32 that is not the hardblank" is not legal in a row.
-unfoldable pub legal : ℕ → ℕ → Bool
-legal hardblank x = leb 32 x || eqb x hardblank
+unfoldable pub legalByte : ℕ → ℕ → Bool
+legalByte hardblank x = leb 32 x || eqb x hardblank
 
 -- A good row line is none of what refusal 6 names: "the line is empty, is longer than Max_Length with its marks, .. or its row holds a byte
 -- under 32 that is not the hardblank".
 unfoldable pub goodLine : Format → List ℕ → Bool
-goodLine f t = ltb 0 (length t) && leb (length t) (f .«max_length») && all (legal (f .hardblank .0)) (row t)
+goodLine f t = ltb 0 (length t) && leb (length t) (f .«max_length») && all (legalByte (f .hardblank .0)) (row t)
 
 -- What a row line holds. "Width 0 is legal."
 unfoldable pub rowOf : Format → List ℕ → RowStep
@@ -52,10 +52,10 @@ abbrev pub otherRows : Format → ℕ → ℕ → RowStep → List TextLine → 
 otherRows f size start (Width w) ls = rowsOn f size (f .height - 1) w ls
 otherRows f size start BadRow ls = refused (refusal badRow start)
 
-unfoldable pub character : Format → ℕ → List TextLine → Rows
-character f size [] = refused (refusal missingLine size)
-character f size (l ∷ ls) = otherRows f size (l .start) (rowOf f (l .text)) ls
+unfoldable pub characterRows : Format → ℕ → List TextLine → Rows
+characterRows f size [] = refused (refusal missingLine size)
+characterRows f size (l ∷ ls) = otherRows f size (l .start) (rowOf f (l .text)) ls
 
--- How many lines a character has: Height, which a header does not let be 0.
+-- How many lines a character has: Height, which is 0 in no header.
 abbrev pub lineCount : Format → ℕ
 lineCount f = suc (f .height - 1)

@@ -10,7 +10,7 @@ ghost use mathlib.Core.Bool.{true};
 ghost use lib.ListN.{length};
 ghost use Rattle.ground.specs.Runs.{all};
 ghost use Rattle.lines.specs.Plain.{isPlain};
-ghost use Rattle.rows.specs.Rows.{row, legal, rowOf};
+ghost use Rattle.rows.specs.Rows.{row, legalByte, rowOf};
 ghost use Rattle.rows.specs.Steps.{badRowAt, rowThere, rowAt, sameAt, rowsAt, charAt};
 
 // What a font's header says of its row lines.
@@ -26,15 +26,15 @@ pub enum RowStep {
     BadRow,
 }
 
-// The row line at a place of a font, and the place behind it.
+// The row line at a place of a font, and the cursor behind it.
 pub enum RowAt {
-    Row { width: usize, next: usize },
+    Row { width: usize, next: Cursor },
     NoRow(Refusal),
 }
 
-// The rows of a character, and the place behind them.
+// The rows of a character, and the cursor behind them.
 pub enum CharStep {
-    Char { width: usize, next: usize },
+    Char { width: usize, next: Cursor },
     NoChar(Refusal),
 }
 
@@ -58,7 +58,7 @@ fn row_width(t: &[u8]) -> usize
 }
 
 fn is_legal(b: u8, hardblank: SubCharacter) -> bool
-    ensures { λ r. ⌜ r ≡ legal (hardblank .0) b ⌝ }
+    ensures { λ r. ⌜ r ≡ legalByte (hardblank .0) b ⌝ }
 {
     if 32 <= b {
         return true;
@@ -67,7 +67,7 @@ fn is_legal(b: u8, hardblank: SubCharacter) -> bool
 }
 
 fn are_legal(t: &[u8], hardblank: SubCharacter) -> bool
-    ensures { λ r. ⌜ r ≡ all (legal (hardblank .0)) (now (t .entry)) ⌝ }
+    ensures { λ r. ⌜ r ≡ all (legalByte (hardblank .0)) (now (t .entry)) ⌝ }
 {
     let mut i: usize = 0;
     while i < t.len() {
@@ -80,7 +80,7 @@ fn are_legal(t: &[u8], hardblank: SubCharacter) -> bool
     true
 }
 
-// What a row line holds, where it may be known that all its bytes are 32 or above. Nothing else knows how a row is written.
+// What a row line holds; `plain` says that all its bytes are known to be 32 or above. Only this function knows how a row is written.
 fn row_where(f: Format, t: &[u8], plain: bool) -> RowStep
     requires { ⌜ (plain ≡ true → all isPlain (now t) ≡ true) ⌝ }
     ensures { λ r. ⌜ r ≡ rowOf f (now (t .entry)) ⌝ }
@@ -120,7 +120,7 @@ fn bad_row(at: usize) -> RowAt
 }
 
 // The row that a line at a place holds.
-fn row_there(r: RowStep, at: usize, next: usize) -> RowAt
+fn row_there(r: RowStep, at: usize, next: Cursor) -> RowAt
     ensures { λ x. ⌜ x ≡ rowThere r at next ⌝ }
 {
     match r {
@@ -129,16 +129,12 @@ fn row_there(r: RowStep, at: usize, next: usize) -> RowAt
     }
 }
 
-// The row line at a place of a font, whatever its bytes.
-fn any_row_at(f: Format, s: &[u8], at: usize) -> RowAt
-    ensures { λ r. ⌜ r ≡ rowAt f (now (s .entry)) at ⌝ }
+// The row line at a cursor, whatever its bytes.
+fn any_row_at(f: Format, s: &[u8], cursor: Cursor) -> RowAt
+    ensures { λ r. ⌜ r ≡ rowAt f (now (s .entry)) (cursor .at) ⌝ }
 {
-    let cursor = Cursor { at };
     match cursor.next(s) {
-        LineStep::Line { start, end, next } => {
-            let n = next.at;
-            row_there(row_of(f, &s[start..end]), at, n)
-        }
+        LineStep::Line { start, end, next } => { row_there(row_of(f, &s[start..end]), start, next) }
         LineStep::NoLine => RowAt::NoRow(Refusal {
             number: refusals::MISSING_LINE,
             place: s.len(),
@@ -146,46 +142,43 @@ fn any_row_at(f: Format, s: &[u8], at: usize) -> RowAt
     }
 }
 
-// The row line at a place of a font. Of a plain line, which most are, all bytes are known to be legal.
-pub fn row_at(f: Format, s: &[u8], at: usize) -> RowAt
-    ensures { λ r. ⌜ r ≡ rowAt f (now (s .entry)) at ⌝ }
+// The row line at a cursor. Of a plain line, which most are, all bytes are known to be legal.
+pub fn row_at(f: Format, s: &[u8], cursor: Cursor) -> RowAt
+    ensures { λ r. ⌜ r ≡ rowAt f (now (s .entry)) (cursor .at) ⌝ }
 {
-    let cursor = Cursor { at };
+    let at = cursor.at;
     match cursor.next_plain(s) {
-        PlainStep::Plain { end, next } => {
-            let n = next.at;
-            row_there(row_where(f, &s[at..end], true), at, n)
-        }
-        PlainStep::Other => any_row_at(f, s, at),
+        PlainStep::Plain { end, next } => { row_there(row_where(f, &s[at..end], true), at, next) }
+        PlainStep::Other => any_row_at(f, s, cursor),
     }
 }
 
-// The same, where it has the given width.
-fn same_at(f: Format, s: &[u8], at: usize, width: usize) -> RowAt
-    ensures { λ r. ⌜ r ≡ sameAt f (now (s .entry)) at width ⌝ }
+// The same, if it has the given width.
+fn same_at(f: Format, s: &[u8], cursor: Cursor, width: usize) -> RowAt
+    ensures { λ r. ⌜ r ≡ sameAt f (now (s .entry)) (cursor .at) width ⌝ }
 {
-    let r = row_at(f, s, at);
+    let r = row_at(f, s, cursor);
     match r {
         RowAt::Row { width: w, next: _ } => {
             if w == width {
                 return r;
             }
-            bad_row(at)
+            bad_row(cursor.at)
         }
         RowAt::NoRow(_) => r,
     }
 }
 
-// As many rows as `count` says, of the given width.
-fn rows_at(f: Format, s: &[u8], from: usize, count: usize, width: usize) -> CharStep
-    ensures { λ r. ⌜ r ≡ rowsAt f (now (s .entry)) from count width ⌝ }
+// The next `count` rows, all of the given width.
+fn rows_at(f: Format, s: &[u8], from: Cursor, count: usize, width: usize) -> CharStep
+    ensures { λ r. ⌜ r ≡ rowsAt f (now (s .entry)) (from .at) count width ⌝ }
 {
-    let mut at = from;
+    let mut cursor = from;
     let mut left = count;
     while 0 < left {
-        match same_at(f, s, at, width) {
+        match same_at(f, s, cursor, width) {
             RowAt::Row { width: _, next } => {
-                at = next;
+                cursor = next;
             }
             RowAt::NoRow(r) => {
                 return CharStep::NoChar(r);
@@ -193,15 +186,18 @@ fn rows_at(f: Format, s: &[u8], from: usize, count: usize, width: usize) -> Char
         }
         left -= 1;
     }
-    CharStep::Char { width, next: at }
+    CharStep::Char {
+        width,
+        next: cursor,
+    }
 }
 
-// The rows of the character whose first row line is at a place of a font.
-pub fn char_at(f: Format, s: &[u8], at: usize) -> CharStep
-    ensures { λ r. ⌜ r ≡ charAt f (now (s .entry)) at ⌝ }
+// The rows of the character whose first row line is at a cursor.
+pub fn char_at(f: Format, s: &[u8], cursor: Cursor) -> CharStep
+    ensures { λ r. ⌜ r ≡ charAt f (now (s .entry)) (cursor .at) ⌝ }
 {
     let height = f.height;
-    match row_at(f, s, at) {
+    match row_at(f, s, cursor) {
         RowAt::Row { width, next } => {
             if height == 0 {
                 return CharStep::Char { width, next };

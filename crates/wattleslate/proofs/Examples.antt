@@ -19,13 +19,16 @@ use Rattle.subchars.specs.declared.Rule.the-variants.{Hierarchy, BigX, Hardblan
 use Rattle.subchars.specs.declared.Mode.{Mode}
 use Rattle.subchars.specs.declared.Joint.{Joint}
 use Rattle.subchars.specs.declared.Joint.the-variants.{ByUniversal, ByRule, Unjoinable}
-use Rattle.subchars.specs.Layouts.{oldLayout, fullLayout}
-use Rattle.subchars.specs.Pair.{isHardblank, joinedIf, orElse, equalCharacter, underscore, classOf, hierarchy, opposite, oppositePair, bigX, controlled, universal, joint, joins}
+use Rattle.subchars.specs.Layouts.{fullLayout}
+use Rattle.header.specs.declared.Given.the-variants.{Absent, Of}
+use Rattle.header.specs.Header.{layoutOf}
+use Rattle.subchars.specs.Pair.{legalHardblank, joinedIf, orElse, equalCharacter, underscore, classOf, hierarchy, opposite, oppositePair, bigX, controlled, universal, joint, joins}
 use Rattle.lanes.specs.Overlap.{laneFacing, facing, hasBlank, free, fitting, oneMore, smushing}
-use Rattle.join.specs.Join.{figure, overlap, joinedAt, besides, rowsOf}
+use Rattle.lanes.specs.Joined.{joinedCells}
+use Rattle.join.specs.Join.{exactBlock, overlap, joinedAt, besides, rowsOf}
 use Rattle.join.specs.Shape.{goodBlock, goodShape}
-use Rattle.wattleslate.specs.declared.JoinAnswer.the-variants.{Joined}
-use Rattle.wattleslate.specs.JoinCall.{joinTells, toldOf, joinTold, joinArea}
+use Rattle.join.specs.declared.JoinAnswer.the-variants.{Joined}
+use Rattle.join.specs.JoinCall.{joinTells, toldOf, joinTold, joinArea}
 
 abbrev Rows : Type 0
 Rows = List String
@@ -52,9 +55,9 @@ abbrev universally : Layout
 universally = Smushing Universal
 
 data Example : Type 0 where
-  -- Old_Layout alone gives the layout
+  -- Old_Layout alone gives the layout: Full_Layout is absent
   old-layout : ℤ → Layout → Example
-  -- Full_Layout gives the layout
+  -- Full_Layout decides alone, whatever Old_Layout is
   full-layout : ℕ → Layout → Example
   -- line and character join at the overlap into the rows
   joining : Layout → Rows → Rows → ℕ → Rows → Example
@@ -64,16 +67,16 @@ data Example : Type 0 where
   pairing : Layout → ℕ → ℕ → Joint → Example
 
 Holds : Example → Type 0
-Holds (old-layout z y) = oldLayout z ≡ y
-Holds (full-layout v y) = fullLayout v ≡ y
+Holds (old-layout z y) = layoutOf z Absent ≡ y
+Holds (full-layout v y) = (old : ℤ) → layoutOf old (Of v) ≡ y
 Holds (joining y line character o result) =
     let h = length line in
     let room = length (text result) in
     (joinTold (mode y) h (width line) (text line) (width character) (text character) room ≡ joinTells (Joined o (width result)))
     × (joinArea (mode y) h (width line) (text line) (width character) (text character) room ≡ text result)
 Holds (is-free line character o) =
-    let a = figure (width line) (text line) in
-    free (length line) (a .width) (a .cells) (figure (width character) (text character) .cells) o ≡ true
+    let a = exactBlock (width line) (text line) in
+    free (length line) (a .width) (a .cells) (exactBlock (width character) (text character) .cells) o ≡ true
 Holds (pairing y l r j) = joint (mode y) l r ≡ j
 
 All : List Example → Type 0
@@ -108,15 +111,15 @@ examples =
 
 -- all of them hold
 examples-hold : All examples
-unfolding All Holds examples values every reach isHardblank joinedIf orElse equalCharacter underscore classOf hierarchy opposite oppositePair bigX controlled universal joint joins fullLayout laneFacing facing hasBlank fitting oneMore smushing overlap joinedAt besides rowsOf goodBlock goodShape toldOf joinTold joinArea
+unfolding All Holds examples values every reach legalHardblank joinedIf orElse equalCharacter underscore classOf hierarchy opposite oppositePair bigX controlled universal joint joins fullLayout laneFacing facing hasBlank fitting oneMore smushing overlap joinedCells joinedAt besides rowsOf goodBlock goodShape toldOf joinTold joinArea
 examples-hold = (
   refl,
   (
     refl,
     (
-      refl,
+      λ old. refl,
       (
-        refl,
+        λ old. refl,
         (
           (refl, refl),
           (

@@ -1,11 +1,9 @@
 -- The laws of the public calls.
-pub mod JoinCases
 pub mod Examples
-pub mod JoinRefusals
 pub mod LookUpLaws
 pub mod RowLaws
-pub mod ControlCases
-pub mod ControlRefusals
+pub mod MapCases
 pub mod DrawCases
-pub mod DrawRefusals
 pub mod ToldApart
+pub mod Wiping
+pub mod Promises

@@ -1,14 +1,16 @@
 -- The calls `row` and `row_refusal` agree for every input: the number is 0 exactly where the row is a row of the character that is used.
 -- Assumes nothing.
-use mathlib.Core.Path.{_≡_, refl, sym, ap, _∙_}
-use mathlib.Core.Bool.{true, true≢false, false≢true}
+use mathlib.Core.Path.{_≡_, refl, sym, ap, ap₂, _∙_}
+use mathlib.Core.Bool.{true, false≢true, true≢false}
 use mathlib.Core.List.{List, []}
 use mathlib.Core.Logic.{_↔_}
 use Prim.Native.Nat.{ℕ, _+_, _-_, _≤_}
 use native.Mathlib.Omega.{arith}
-use lib.ListN.{take, drop}
+use lib.ListN.{length, take, drop}
+use denote.Ref.{RefT, ptr}
 use Rattle.ground.specs.declared.refusals.Refusal.{Refusal}
-use Rattle.ground.specs.Refusals.{badShape}
+use Rattle.ground.specs.Refusals.{refusal, tooManyCharacters, badShape}
+use Rattle.ground.proofs.Tests.{clash}
 use Rattle.subchars.specs.declared.Code.{Code}
 use Rattle.lines.specs.Lines.{textAt}
 use Rattle.rows.specs.Rows.{row}
@@ -17,10 +19,10 @@ use Rattle.request.specs.declared.Requested.{Requested}
 use Rattle.request.specs.declared.Requested.the-variants as requested-is
 use Rattle.request.specs.Request.{rowRequest}
 use Rattle.request.proofs.RowLaws.{used-stands}
-use Rattle.request.proofs.RequestLaws.{Given, row-only, row-if, BadRequest, refused-17, refused-font, refused-some}
-use Rattle.wattleslate.specs.declared.RowRefusal.{RowRefusal}
+use Rattle.request.proofs.RequestLaws.{Given, row-fits, row-only, row-if, BadRequest, refused-17, refused-font, refused-some}
 use Rattle.wattleslate.specs.declared.RowRefusal.the-variants.{NotRefused, Refused}
-use Rattle.wattleslate.specs.RowCall.{partOf, rowBytes, RowTold, rowTells, requestTold, rowTold}
+use Rattle.wattleslate.specs.RowCall.{RowTold, partOf, rowBytes, LiesAt, rowTells, requestTold, rowTold}
+use Rattle.wattleslate.proofs.ToldApart.{row-apart}
 
 -- The answers to a request.
 module _ (s : List ℕ) (c : Code) (r : ℕ) (x : Requested) (p : x ≡ rowRequest s c r) where
@@ -32,16 +34,17 @@ module _ (s : List ℕ) (c : Code) (r : ℕ) (x : Requested) (p : x ≡ rowReque
   unfolding rowBytes
   part-by-request = ap (partOf s) p
 
+-- The part lies where the request says, and a refused request says nothing.
+module _ (s : List ℕ) (c : Code) (r : ℕ) (font part : RefT (List ℕ)) where
+  pub lies-there : (p w : ℕ) → requested-is.Row p w ≡ rowRequest s c r → ptr part .0 ≡ ptr font .0 → ptr part .1 ≡ p + ptr font .1 → LiesAt font (rowRequest s c r) part
+  lies-there p w e m o = record { there = λ q v f. let g : requested-is.Row p w ≡ requested-is.Row q v = e ∙ f in let k : p ≡ q = cc in (m, o ∙ ap (λ (j : ℕ). j + ptr font .1) k) }
+
+  pub lies-nowhere : (q : Refusal) → requested-is.Refused q ≡ rowRequest s c r → LiesAt font (rowRequest s c r) part
+  lies-nowhere q e = record { there = λ p w f. let g : requested-is.Refused q ≡ requested-is.Row p w = e ∙ f in clash (cc) }
+
 -- The part from a place to the place behind its width.
 pub row-part : (s : List ℕ) (c : Code) (r p w : ℕ) → requested-is.Row p w ≡ rowRequest s c r → take (p + w - p) (drop p s) ≡ rowBytes s c r
 row-part s c r p w e = let n : p + w - p ≡ w = omega arith in ap (λ (j : ℕ). take j (drop p s)) n ∙ part-by-request s c r (requested-is.Row p w) e
-
--- two answers that tell the same are the same
-pub refusals-apart : (a b : RowRefusal) → rowTells a ≡ rowTells b → a ≡ b
-refusals-apart NotRefused NotRefused e = refl
-refusals-apart NotRefused (Refused q) e = absurd (false≢true (ap (λ (t : RowTold). t .refused) e))
-refusals-apart (Refused q) NotRefused e = absurd (true≢false (ap (λ (t : RowTold). t .refused) e))
-refusals-apart (Refused q) (Refused z) e = ap (λ (t : RowTold). Refused (record { number = t .number; place = t .place })) e
 
 module _ (s : List ℕ) (c : Code) (r : ℕ) where
   -- The row of the character that is used: where it stands, and its bytes, which are the row of the line there.
@@ -89,17 +92,30 @@ module _ (s : List ℕ) (c : Code) (r : ℕ) where
   told-refused q e = go (rowRequest s c r) e
     where
       go : (x : Requested) → requestTold x ≡ rowTells (Refused q) → x ≡ requested-is.Refused q
-      go (requested-is.Row p w) k = absurd (false≢true (ap (λ (t : RowTold). t .refused) k))
-      go (requested-is.Refused z) k = ap (λ (t : RowTold). requested-is.Refused (record { number = t .number; place = t .place })) k
+      go (requested-is.Row p w) k = let y = row-apart (NotRefused p w) (Refused q) k in clash (cc)
+      go (requested-is.Refused z) k = let y = row-apart (Refused z) (Refused q) k in let w : z ≡ q = cc in ap requested-is.Refused w
 
   refused-told : (q : Refusal) → rowRequest s c r ≡ requested-is.Refused q → rowTold s c r ≡ rowTells (Refused q)
   unfolding rowTold
   refused-told q e = ap requestTold e
 
   -- The font's refusals, exactly those of the font.
-  pub told-font : (q : Refusal) → q .number ≤ 8 → rowTold s c r ≡ rowTells (Refused q) ↔ reading s ≡ refuses q
+  pub told-font : (q : Refusal) → q .number ≤ tooManyCharacters → rowTold s c r ≡ rowTells (Refused q) ↔ reading s ≡ refuses q
   told-font q h = (λ e. refused-font s c r q h .0 (told-refused q e), λ m. refused-told q (refused-font s c r q h .1 m))
 
   -- 17, "join or row request of bad shape", exactly then, at 0.
-  pub told-17 : (p : ℕ) → rowTold s c r ≡ record { refused = true; number = badShape; place = p } ↔ ((p ≡ 0) × BadRequest s c r)
-  told-17 p = (λ e. refused-17 s c r p .0 (told-refused (record { number = badShape; place = p }) e), λ w. refused-told (record { number = badShape; place = p }) (refused-17 s c r p .1 w))
+  pub told-17 : (p : ℕ) → rowTold s c r ≡ rowTells (Refused (refusal badShape p)) ↔ ((p ≡ 0) × BadRequest s c r)
+  told-17 p = (λ e. refused-17 s c r p .0 (told-refused (refusal badShape p) e), λ w. refused-told (refusal badShape p) (refused-17 s c r p .1 w))
+
+  -- "A row request gives the row as a part of the font": where the one call tells a start and a width, the other gives the part there, which lies
+  -- in the font.
+  pub part-told : (p w : ℕ) → rowTold s c r ≡ rowTells (NotRefused p w) → (rowBytes s c r ≡ take w (drop p s)) × (p + w ≤ length s)
+  unfolding rowTold rowBytes
+  part-told p w e = go (rowRequest s c r) refl e
+    where
+      go : (x : Requested) → rowRequest s c r ≡ x → requestTold x ≡ rowTells (NotRefused p w) → (partOf s (rowRequest s c r) ≡ take w (drop p s)) × (p + w ≤ length s)
+      go (requested-is.Row q v) m k =
+          let start : q ≡ p = ap (λ (t : RowTold). t .start) k in
+          let width : v ≡ w = ap (λ (t : RowTold). t .width) k in
+          (ap (partOf s) m ∙ ap₂ (λ (j n : ℕ). take n (drop j s)) start width, omega (arith, start, width, row-fits s c r q v m))
+      go (requested-is.Refused z) m k = absurd (true≢false (ap (λ (t : RowTold). t .refused) k))

@@ -6,15 +6,15 @@ use Rattle.figure.specs.declared.DrawAnswer.{DrawAnswer}
 use Rattle.figure.specs.declared.DrawAnswer.the-variants as draw-is
 use Rattle.flc.specs.declared.ControlAnswer.{ControlAnswer}
 use Rattle.flc.specs.declared.ControlAnswer.the-variants as control-is
-use Rattle.wattleslate.specs.declared.JoinAnswer.{JoinAnswer}
-use Rattle.wattleslate.specs.declared.JoinAnswer.the-variants as join-is
+use Rattle.join.specs.declared.JoinAnswer.{JoinAnswer}
+use Rattle.join.specs.declared.JoinAnswer.the-variants as join-is
 use Rattle.wattleslate.specs.declared.LookUpAnswer.{LookUpAnswer}
 use Rattle.wattleslate.specs.declared.LookUpAnswer.the-variants as look-up-is
 use Rattle.wattleslate.specs.declared.MapAnswer.{MapAnswer}
 use Rattle.wattleslate.specs.declared.MapAnswer.the-variants as map-is
 use Rattle.wattleslate.specs.declared.RowRefusal.{RowRefusal}
 use Rattle.wattleslate.specs.declared.RowRefusal.the-variants as row-is
-use Rattle.wattleslate.specs.JoinCall.{JoinTold, joinTells}
+use Rattle.join.specs.JoinCall.{JoinTold, joinTells}
 use Rattle.wattleslate.specs.LookUpCall.{LookUpTold, lookUpTells}
 use Rattle.wattleslate.specs.RowCall.{RowTold, rowTells}
 use Rattle.wattleslate.specs.ControlCall.{ControlTold, controlTells}
@@ -46,9 +46,9 @@ map-apart (map-is.Refused r) (map-is.Mapped z) e = absurd (true≢false (ap (λ 
 map-apart (map-is.Refused r) (map-is.Refused s) e = ap (λ (t : MapTold). map-is.Refused (record { number = t .number; place = t .place })) e
 
 pub row-apart : (r s : RowRefusal) → rowTells r ≡ rowTells s → r ≡ s
-row-apart row-is.NotRefused row-is.NotRefused e = refl
-row-apart row-is.NotRefused (row-is.Refused r) e = absurd (false≢true (ap (λ (t : RowTold). t .refused) e))
-row-apart (row-is.Refused r) row-is.NotRefused e = absurd (true≢false (ap (λ (t : RowTold). t .refused) e))
+row-apart (row-is.NotRefused p v) (row-is.NotRefused q w) e = ap₂ row-is.NotRefused (ap (λ (t : RowTold). t .start) e) (ap (λ (t : RowTold). t .width) e)
+row-apart (row-is.NotRefused p v) (row-is.Refused r) e = absurd (false≢true (ap (λ (t : RowTold). t .refused) e))
+row-apart (row-is.Refused r) (row-is.NotRefused p v) e = absurd (true≢false (ap (λ (t : RowTold). t .refused) e))
 row-apart (row-is.Refused r) (row-is.Refused s) e = ap (λ (t : RowTold). row-is.Refused (record { number = t .number; place = t .place })) e
 
 pub look-up-apart : (r s : LookUpAnswer) → lookUpTells r ≡ lookUpTells s → r ≡ s

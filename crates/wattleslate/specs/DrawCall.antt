@@ -1,15 +1,12 @@
 -- The call `draw`: what it answers and what its areas hold, for every input.
 -- Assumes nothing.
 use Prim.Native.Nat.{ℕ}
-use mathlib.Core.Bool.{Bool, true, false, cond}
+use mathlib.Core.Bool.{Bool, true, false}
 use mathlib.Core.List.{List}
-use lib.Dec.{ltb}
 use Rattle.ground.specs.Area.{padded}
-use Rattle.ground.specs.Refusals.{refusal, areaTooSmall}
-use Rattle.ground.specs.Limits.{minScratch}
 use Rattle.figure.specs.declared.DrawAnswer.{DrawAnswer}
 use Rattle.figure.specs.declared.DrawAnswer.the-variants.{Drawn, Refused}
-use Rattle.drawing.specs.Drawing.{Lined, unlined, linedOf, answerOf, bytesOf}
+use Rattle.drawing.specs.Drawing.{drawLined, linedAnswer, bytesOf}
 
 -- What an answer tells. "A refusal answers its number and place (0 where none is named); other numbers are 0."
 pub record DrawTold : Type 0 where
@@ -22,12 +19,9 @@ abbrev pub drawTells : DrawAnswer → DrawTold
 drawTells (Drawn w) = record { refused = false; number = 0; place = 0; width = w }
 drawTells (Refused r) = record { refused = true; number = r .number; place = r .place; width = 0 }
 
--- "Drawing: 9 for all working areas (scratch under 32,000 bytes included)", then the refusals of crate drawing, in their order.
-unfoldable pub drawLined : ℕ → List ℕ → List ℕ → List ℕ → Lined
-drawLined scratch font control text = cond (ltb scratch minScratch) (unlined (refusal areaTooSmall 0)) (linedOf font control text)
-
+-- The answer in an output of the given room, with a scratch of the given size.
 unfoldable pub drawTold : ℕ → List ℕ → List ℕ → List ℕ → ℕ → DrawTold
-drawTold scratch font control text room = drawTells (answerOf (drawLined scratch font control text) room)
+drawTold scratch font control text room = drawTells (linedAnswer (drawLined scratch font control text) room)
 
 -- "A refusal fills every lent writable area with zeros. A success fills all room behind its answer with zeros."
 unfoldable pub drawOutput : ℕ → List ℕ → List ℕ → List ℕ → ℕ → List ℕ

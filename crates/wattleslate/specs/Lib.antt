@@ -1,5 +1,4 @@
 -- The meaning of the public calls.
-pub mod JoinCall
 pub mod LookUpCall
 pub mod RowCall
 pub mod ControlCall

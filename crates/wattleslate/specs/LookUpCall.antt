@@ -5,7 +5,7 @@ use mathlib.Core.Bool.{Bool, true, false}
 use mathlib.Core.List.{List}
 use lib.IntN.{ℤ, pos}
 use Rattle.subchars.specs.declared.Code.{Code}
-use Rattle.font.specs.Font.{Reading, says, refuses, reading}
+use Rattle.font.specs.Font.{FontReading, says, refuses, reading}
 use Rattle.reader.specs.declared.Use.{Use}
 use Rattle.reader.specs.declared.Use.the-variants as use-is
 use Rattle.reader.specs.Reader.{used}
@@ -33,7 +33,7 @@ entryTold (use-is.Used e) = lookUpTells (Used e)
 entryTold use-is.Nothing = lookUpTells Nothing
 
 -- "Look-up ..: those of" the font.
-abbrev pub toldBy : Code → Reading → LookUpTold
+abbrev pub toldBy : Code → FontReading → LookUpTold
 toldBy c (says h es) = entryTold (used c es)
 toldBy c (refuses r) = lookUpTells (Refused r)
 

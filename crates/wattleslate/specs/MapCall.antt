@@ -5,7 +5,7 @@ use mathlib.Core.Bool.{Bool, true, false}
 use mathlib.Core.List.{List}
 use lib.IntN.{ℤ, pos}
 use Rattle.subchars.specs.declared.Code.{Code}
-use Rattle.flc.specs.Control.{Reading, reads, refuses, control}
+use Rattle.flc.specs.Control.{ControlReading, reads, refuses, control}
 use Rattle.flc.specs.Mapping.{mapStages}
 use Rattle.wattleslate.specs.declared.MapAnswer.{MapAnswer}
 use Rattle.wattleslate.specs.declared.MapAnswer.the-variants.{Mapped, Refused}
@@ -22,7 +22,7 @@ mapTells (Mapped z) = record { refused = false; number = 0; place = 0; code = z 
 mapTells (Refused r) = record { refused = true; number = r .number; place = r .place; code = pos 0 }
 
 -- "Mapping a code: those of their file": by all stages of the file, the first one first, or the file's refusal.
-abbrev pub mappedBy : Reading → Code → MapAnswer
+abbrev pub mappedBy : ControlReading → Code → MapAnswer
 mappedBy (reads cs stages) z = Mapped (mapStages cs 0 stages z)
 mappedBy (refuses r) z = Refused r
 

@@ -1,7 +1,4 @@
 // The public calls. Each is total: it tests its own input, and its `ensures` hold for every input.
-mod controlling;
-mod drawn;
-mod joining;
 
 // The types that the calls take and answer, and the two calls over a lent index.
 pub use chars::Entry;
@@ -15,6 +12,7 @@ use ground::refusals;
 pub use ground::refusals::Refusal;
 pub use header::Given;
 pub use header::Header;
+pub use join::JoinAnswer;
 pub use reader::FontAnswer;
 pub use reader::Use;
 use request::Requested;
@@ -28,11 +26,12 @@ pub use subchars::SubCharacter;
 ghost use mathlib.Core.Path.{_≡_};
 ghost use lib.ListN.{length};
 ghost use Rattle.ground.specs.Area.{zeros};
-ghost use Rattle.flc.specs.Lists.{stageList, firstList, lastList, newList};
-ghost use Rattle.wattleslate.specs.JoinCall.{joinTells, joinTold, joinArea};
+ghost use Rattle.join.specs.JoinCall.{JoinGives};
+ghost use Rattle.request.specs.Request.{rowRequest};
+ghost use Rattle.flc.specs.Lists.{commandLists};
 ghost use Rattle.wattleslate.specs.LookUpCall.{lookUpTells, lookUpTold};
-ghost use Rattle.wattleslate.specs.RowCall.{rowTells, rowTold, rowBytes};
-ghost use Rattle.wattleslate.specs.ControlCall.{controlTells, controlReading, controlTold};
+ghost use Rattle.wattleslate.specs.RowCall.{rowTells, rowTold, rowBytes, LiesAt};
+ghost use Rattle.wattleslate.specs.ControlCall.{ControlRead};
 ghost use Rattle.wattleslate.specs.MapCall.{mapTells, mapTold};
 ghost use Rattle.wattleslate.specs.DrawCall.{drawTells, drawTold, drawOutput};
 
@@ -43,9 +42,9 @@ pub enum LookUpAnswer {
     Refused(Refusal),
 }
 
-// Whether a row request is refused.
+// Whether a row request is refused, and where not, where in the font the row starts and how wide it is.
 pub enum RowRefusal {
-    NotRefused,
+    NotRefused { place: usize, width: usize },
     Refused(Refusal),
 }
 
@@ -55,19 +54,13 @@ pub enum MapAnswer {
     Refused(Refusal),
 }
 
-// What a join answers: the overlap and the width of the result, or a refusal.
-pub enum JoinAnswer {
-    Joined { overlap: usize, width: usize },
-    Refused(Refusal),
-}
-
 // The character of a font that is used for a code: the last that has it, or else the last with code 0. The font's refusals.
 pub fn look_up(font: &[u8], code: Code) -> LookUpAnswer
     ensures answer { λ r. ⌜ lookUpTells r ≡ lookUpTold (now (font .entry)) code ⌝ }
 {
     match request::seek(font, code) {
         Sought::Found { height: _, entry } => LookUpAnswer::Used(entry),
-        Sought::Missing => LookUpAnswer::Nothing,
+        Sought::NoDrawing => LookUpAnswer::Nothing,
         Sought::Unread(r) => LookUpAnswer::Refused(r),
     }
 }
@@ -75,6 +68,7 @@ pub fn look_up(font: &[u8], code: Code) -> LookUpAnswer
 // A row of the character that is used for a code, as a part of the font: its bytes as they stand there. A refused row is empty.
 pub fn row<'a>(font: &'a [u8], code: Code, row: usize) -> &'a [u8]
     ensures part { λ r. ⌜ now r ≡ rowBytes (now (font .entry)) code row ⌝ }
+    ensures place { λ r. ⌜ LiesAt (font .entry) (rowRequest (now (font .entry)) code row) r ⌝ }
 {
     match request::request(font, code, row) {
         Requested::Row { place, width } => {
@@ -85,12 +79,12 @@ pub fn row<'a>(font: &'a [u8], code: Code, row: usize) -> &'a [u8]
     }
 }
 
-// The number and place of the same row request: the font's refusals, then 17.
+// The refusal of the same row request, the font's or else 17; or where in the font the row starts and how wide it is.
 pub fn row_refusal(font: &[u8], code: Code, row: usize) -> RowRefusal
     ensures answer { λ r. ⌜ rowTells r ≡ rowTold (now (font .entry)) code row ⌝ }
 {
     match request::request(font, code, row) {
-        Requested::Row { place: _, width: _ } => RowRefusal::NotRefused,
+        Requested::Row { place, width } => RowRefusal::NotRefused { place, width },
         Requested::Refused(r) => RowRefusal::Refused(r),
     }
 }
@@ -104,25 +98,9 @@ pub fn read_control(
     lasts: &mut [i32],
     news: &mut [i32],
 ) -> ControlAnswer
-    ensures answer { λ r. ⌜ controlTells r ≡ controlTold (controlReading (length (now (stages .entry))) (length (now (firsts .entry))) (length (now (lasts .entry))) (length (now (news .entry))) (now (control .entry))) ⌝ }
-    ensures stages { λ r. ⌜ now (stages .exit) ≡ stageList (controlReading (length (now (stages .entry))) (length (now (firsts .entry))) (length (now (lasts .entry))) (length (now (news .entry))) (now (control .entry))) (length (now (stages .entry))) ⌝ }
-    ensures firsts { λ r. ⌜ now (firsts .exit) ≡ firstList (controlReading (length (now (stages .entry))) (length (now (firsts .entry))) (length (now (lasts .entry))) (length (now (news .entry))) (now (control .entry))) (length (now (firsts .entry))) ⌝ }
-    ensures lasts { λ r. ⌜ now (lasts .exit) ≡ lastList (controlReading (length (now (stages .entry))) (length (now (firsts .entry))) (length (now (lasts .entry))) (length (now (news .entry))) (now (control .entry))) (length (now (lasts .entry))) ⌝ }
-    ensures news { λ r. ⌜ now (news .exit) ≡ newList (controlReading (length (now (stages .entry))) (length (now (firsts .entry))) (length (now (lasts .entry))) (length (now (news .entry))) (now (control .entry))) (length (now (news .entry))) ⌝ }
+    ensures { λ r. ⌜ ControlRead (now (control .entry)) (commandLists (now (stages .entry)) (now (firsts .entry)) (now (lasts .entry)) (now (news .entry))) r (commandLists (now (stages .exit)) (now (firsts .exit)) (now (lasts .exit)) (now (news .exit))) ⌝ }
 {
-    if !controlling::has_room(stages.len(), firsts.len(), lasts.len(), news.len()) {
-        return flc::refuse(
-            Refusal {
-                number: refusals::AREA_TOO_SMALL,
-                place: 0,
-            },
-            stages,
-            firsts,
-            lasts,
-            news,
-        );
-    }
-    flc::read_lists(control, stages, firsts, lasts, news)
+    flc::read_lent(control, stages, firsts, lasts, news)
 }
 
 // Maps a code by a control file, stage after stage. Refusals are those of the file (10 to 14).
@@ -142,7 +120,7 @@ pub fn map_code(control: &[u8], code: Code) -> MapAnswer
     }
 }
 
-// Puts a FIGcharacter to a line of equal height, as the layout says, and writes the result to `out`, row after row with zeros behind.
+// Joins a FIGcharacter to a line of equal height as the layout says, and writes the result to `out`, row after row with zeros behind.
 // Writing left to right the character goes to the line's right, otherwise to its left. A refusal (17, 16, 9) leaves `out` all zeros.
 pub fn join(
     line: &[u8],
@@ -155,44 +133,21 @@ pub fn join(
     direction: Direction,
     out: &mut [u8],
 ) -> JoinAnswer
-    ensures answer { λ r. ⌜ joinTells r ≡ joinTold (record { layout = layout; direction = direction; hardblank = hardblank }) height «line_width» (now (line .entry)) «character_width» (now (character .entry)) (length (now (out .entry))) ⌝ }
-    ensures area { λ r. ⌜ now (out .exit) ≡ joinArea (record { layout = layout; direction = direction; hardblank = hardblank }) height «line_width» (now (line .entry)) «character_width» (now (character .entry)) (length (now (out .entry))) ⌝ }
+    ensures { λ r. ⌜ JoinGives (record { layout = layout; direction = direction; hardblank = hardblank }) height «line_width» (now (line .entry)) «character_width» (now (character .entry)) (length (now (out .entry))) r (now (out .exit)) ⌝ }
 {
-    let mode = Mode {
-        layout,
-        direction,
-        hardblank,
-    };
-    if !join::shape::good_shape(
-        mode,
+    join::joining::join_to_line(
+        Mode {
+            layout,
+            direction,
+            hardblank,
+        },
         height,
+        line,
         line_width,
-        line.len(),
+        character,
         character_width,
-        character.len(),
-    ) {
-        return joining::refuse(refusals::BAD_SHAPE, out);
-    }
-    match direction {
-        Direction::LeftToRight => joining::join_blocks(
-            mode,
-            height,
-            line,
-            line_width,
-            character,
-            character_width,
-            out,
-        ),
-        Direction::RightToLeft => joining::join_blocks(
-            mode,
-            height,
-            character,
-            character_width,
-            line,
-            line_width,
-            out,
-        ),
-    }
+        out,
+    )
 }
 
 // Draws a line of text by a font and a control file, and writes it to `out`: each row with hardblanks as blanks, then LF, with zeros behind. The
@@ -209,7 +164,5 @@ pub fn draw(
     ensures output { λ r. ⌜ now (out .exit) ≡ drawOutput (length (now (scratch .entry))) (now (font .entry)) (now (control .entry)) (now (text .entry)) (length (now (out .entry))) ⌝ }
     ensures scratch { λ r. ⌜ now (scratch .exit) ≡ zeros (length (now (scratch .entry))) ⌝ }
 {
-    let answer = drawn::draw_tested(out, scratch, text, font, control);
-    ground::zero_from(scratch, 0);
-    answer
+    drawing::draw(font, control, text, scratch, out)
 }

@@ -32,11 +32,22 @@ extern "C" {
     ) -> u64;
 }
 
-/// A refusal's number and place, or the value of a success.
-pub fn apart(answer: u64) -> Result<u32, (u32, u32)> {
-    match (answer >> 32) as u32 {
-        0 => Ok(answer as u32),
-        number => Err((number, answer as u32)),
+/// The bits of a place and of a value: an answer is a refusal's number above its place, or 0 above three values.
+const PLACE_BITS: u32 = 48;
+const VALUE_BITS: u32 = 16;
+
+/// The three values of a success, or a refusal's number and place.
+pub type Apart = Result<[u16; 3], (u64, u64)>;
+
+/// A refusal's number, 0 for a success.
+pub fn number(answer: u64) -> u64 {
+    answer >> PLACE_BITS
+}
+
+pub fn apart(answer: u64) -> Apart {
+    match number(answer) {
+        0 => Ok([2, 1, 0].map(|k| (answer >> (k * VALUE_BITS)) as u16)),
+        number => Err((number, answer & ((1 << PLACE_BITS) - 1))),
     }
 }
 

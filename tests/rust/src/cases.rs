@@ -1,8 +1,6 @@
 //! Document 01's own examples and its edge cases, with what each must give. Both implementations are asked.
-use crate::calls;
+use crate::calls::{self, Apart};
 use crate::plain::{self, join::Request};
-
-type Answer = Result<u32, (u32, u32)>;
 
 /// Document 01's font of the program banner, with its line ends.
 fn banner_font(header: &str, end: &str) -> Vec<u8> {
@@ -23,25 +21,25 @@ fn banner_font(header: &str, end: &str) -> Vec<u8> {
 const HEADER: &str = "flf2a$ 1 1 4 -1 0";
 
 /// What the font reads as: one row, so many characters.
-fn reads(count: u32) -> Answer {
-    Ok(1 << 16 | count)
+fn reads(count: u16) -> Apart {
+    Ok([0, 1, count])
 }
 
 /// Texts put behind the font, which has 419 bytes.
-const BEHIND: &[(&str, Answer)] = &[
-    ("", Ok(1 << 16 | 102)),
-    (" \n\t\r\n\n", Ok(1 << 16 | 102)),
+const BEHIND: &[(&str, Apart)] = &[
+    ("", Ok([0, 1, 102])),
+    (" \n\t\r\n\n", Ok([0, 1, 102])),
     ("\x1a", Err((7, 419))),
     ("\n161\na@@\n", Err((7, 419))),
-    ("161\na@@\n", Ok(1 << 16 | 103)),
+    ("161\na@@\n", Ok([0, 1, 103])),
     ("  -1\n", Err((7, 419))),
-    ("-2\na@@\n", Ok(1 << 16 | 103)),
-    ("0x7FFFFFFF\na@@\n", Ok(1 << 16 | 103)),
+    ("-2\na@@\n", Ok([0, 1, 103])),
+    ("0x7FFFFFFF\na@@\n", Ok([0, 1, 103])),
     ("0x80000000\na@@\n", Err((7, 419))),
-    ("-0x80000000\na@@", Ok(1 << 16 | 103)),
+    ("-0x80000000\na@@", Ok([0, 1, 103])),
     ("08\na@@\n", Err((7, 419))),
-    ("0000000000000000000000101\na@@\n", Ok(1 << 16 | 103)),
-    ("0\na@@\n0\nb@@\n", Ok(1 << 16 | 104)),
+    ("0000000000000000000000101\na@@\n", Ok([0, 1, 103])),
+    ("0\na@@\n0\nb@@\n", Ok([0, 1, 104])),
     ("161\n", Err((5, 423))),
     ("161\n\n", Err((6, 423))),
     ("161\nabcd@\n", Err((6, 423))),
@@ -49,17 +47,17 @@ const BEHIND: &[(&str, Answer)] = &[
 ];
 
 /// Header lines, with the 102 characters behind.
-const HEADERS: &[(&str, Answer)] = &[
-    ("flf2a$ 1 1 4 -1 0 2147483648", Ok(1 << 16 | 102)),
+const HEADERS: &[(&str, Apart)] = &[
+    ("flf2a$ 1 1 4 -1 0 2147483648", Ok([0, 1, 102])),
     ("flf2a$ 1 1 4 -1 0 2", Err((4, 0))),
-    ("flf2a$ 1 1 4 -1 0 x 2", Ok(1 << 16 | 102)),
-    ("flf2a$ 1 1 200 63 0 1 32767 0 -9 x", Ok(1 << 16 | 102)),
+    ("flf2a$ 1 1 4 -1 0 x 2", Ok([0, 1, 102])),
+    ("flf2a$ 1 1 200 63 0 1 32767 0 -9 x", Ok([0, 1, 102])),
     ("flf2a$ 1 1 201 -1 0", Err((4, 0))),
     ("flf2a$ 1 1 4 64 0 0 0", Err((4, 0))),
     ("flf2a$ 1 2 4 -1 0", Err((4, 0))),
-    ("flf2a$ 0000000001 1 4 -01 -0", Ok(1 << 16 | 102)),
+    ("flf2a$ 0000000001 1 4 -01 -0", Ok([0, 1, 102])),
     ("flf2a$ 00000000001 1 4 -1 0", Err((4, 0))),
-    ("flf2a\t\t1 1 4 -1 0", Ok(1 << 16 | 102)),
+    ("flf2a\t\t1 1 4 -1 0", Ok([0, 1, 102])),
     ("flf2a$$ 1 1 4 -1 0", Err((4, 0))),
     ("flf2a$ 1 1 4 -1 1000", Err((5, 422))),
     ("flf2b$ 1 1 4 -1 0", Err((2, 0))),
@@ -68,25 +66,25 @@ const HEADERS: &[(&str, Answer)] = &[
 ];
 
 /// Control files, with the counts of stages and commands.
-const CONTROLS: &[(&str, Answer)] = &[
-    ("", Ok(1 << 16)),
-    ("flc2a\nflc2a", Ok(2 << 16)),
-    ("t A B\nt B A\n", Ok(1 << 16 | 2)),
-    ("t A B\nf\nt B A", Ok(2 << 16 | 2)),
+const CONTROLS: &[(&str, Apart)] = &[
+    ("", Ok([0, 1, 0])),
+    ("flc2a\nflc2a", Ok([0, 2, 0])),
+    ("t A B\nt B A\n", Ok([0, 1, 2])),
+    ("t A B\nf\nt B A", Ok([0, 2, 2])),
     ("t a-c x-y", Err((12, 0))),
     ("t -- a", Err((11, 0))),
-    ("t - a", Ok(1 << 16 | 1)),
+    ("t - a", Ok([0, 1, 1])),
     ("t --- a-b", Err((12, 0))),
-    ("t --a --a", Ok(1 << 16 | 1)),
+    ("t --a --a", Ok([0, 1, 1])),
     ("t a b-c", Err((11, 0))),
     ("#\n \t\n t A B", Err((11, 5))),
-    ("t \\  A", Ok(1 << 16 | 1)),
+    ("t \\  A", Ok([0, 1, 1])),
     ("t \\ A", Err((11, 0))),
-    ("t A \\ ", Ok(1 << 16 | 1)),
+    ("t A \\ ", Ok([0, 1, 1])),
     ("t \\65-70 a-b", Err((11, 0))),
     ("t \\65-7 a-b", Err((12, 0))),
-    ("t \\-0x80000000-\\0x7FFFFFFF \\-0x80000000-\\0x7FFFFFFF", Ok(1 << 16 | 1)),
-    ("-1 65\n65 -0x1 #", Ok(1 << 16 | 2)),
+    ("t \\-0x80000000-\\0x7FFFFFFF \\-0x80000000-\\0x7FFFFFFF", Ok([0, 1, 1])),
+    ("-1 65\n65 -0x1 #", Ok([0, 1, 2])),
     ("65 66x", Err((11, 0))),
     ("65 2147483648", Err((11, 0))),
     ("\nhello", Err((13, 1))),
@@ -94,7 +92,7 @@ const CONTROLS: &[(&str, Answer)] = &[
 ];
 
 /// One-row joins with hardblank `$`: line, character, layout, direction, overlap, result.
-const JOINS: &[(&str, &str, usize, usize, u32, &str)] = &[
+const JOINS: &[(&str, &str, usize, usize, u16, &str)] = &[
     ("a  ", " b", 64, 0, 2, "a b"),
     ("a ", "b ", 64, 0, 1, "ab "),
     ("a ", "b ", 128, 0, 2, "b "),
@@ -135,7 +133,7 @@ struct Check {
 }
 
 impl Check {
-    fn same(&mut self, what: &str, proved: u64, plain: u64, must: Answer) {
+    fn same(&mut self, what: &str, proved: u64, plain: u64, must: Apart) {
         self.made += 1;
         let (a, b) = (calls::apart(proved), calls::apart(plain));
         if a != must || b != must {
@@ -144,12 +142,12 @@ impl Check {
         }
     }
 
-    fn font(&mut self, font: &[u8], must: Answer) {
+    fn font(&mut self, font: &[u8], must: Apart) {
         let what = format!("font {:?}", String::from_utf8_lossy(font));
         self.same(&what, calls::check_font(font), plain::check_font(font), must);
     }
 
-    fn join(&mut self, (line, character, layout, direction, overlap, result): (&str, &str, usize, usize, u32, &str)) {
+    fn join(&mut self, (line, character, layout, direction, overlap, result): (&str, &str, usize, usize, u16, &str)) {
         let request = Request {
             line: line.as_bytes(),
             line_width: line.len(),
@@ -162,7 +160,7 @@ impl Check {
         };
         let (mut a, mut b) = (vec![1; 8], vec![1; 8]);
         let (x, y) = (calls::join(&request, &mut a), plain::join::join(&request, &mut b));
-        self.same(&format!("{request:?}"), x, y, Ok(overlap << 16 | result.len() as u32));
+        self.same(&format!("{request:?}"), x, y, Ok([0, overlap, result.len() as u16]));
         self.bytes(&format!("{request:?}"), &a, &b, result, 8);
     }
 
@@ -180,14 +178,14 @@ impl Check {
         let x = calls::draw(font, control.as_bytes(), text.as_bytes(), &mut s, &mut a);
         let (mut t, mut b) = (vec![1; 32000], vec![1; 20]);
         let y = plain::draw::draw(font, control.as_bytes(), text.as_bytes(), &mut t, &mut b);
-        self.same(text, x, y, Ok(result.len() as u32 - 1));
+        self.same(text, x, y, Ok([0, 0, result.len() as u16 - 1]));
         self.bytes(text, &a, &b, result, 20);
     }
 
     /// "1,000 columns drawn, 1,001 refused 16", and texts up to 1,024 bytes.
     fn widths(&mut self) {
         let font = banner_font(HEADER, "\n");
-        for (length, must) in [(1000, Ok(1000)), (1001, Err((16, 0))), (1024, Err((16, 0))), (1025, Err((15, 0)))] {
+        for (length, must) in [(1000, Ok([0, 0, 1000])), (1001, Err((16, 0))), (1024, Err((16, 0))), (1025, Err((15, 0)))] {
             let text = vec![b'a'; length];
             let (mut s, mut a) = (vec![1; 32000], vec![1; 1001]);
             let x = calls::draw(&font, b"", &text, &mut s, &mut a);
@@ -215,8 +213,8 @@ impl Check {
         self.font(&banner_font(HEADER, "\n\r"), Err((6, 18)));
         let full = [font.clone(), b"5\na@@\n".repeat(410)].concat();
         self.font(&full, reads(512));
-        self.font(&[&full[..], b"5\n"].concat(), Err((8, full.len() as u32)));
-        self.font(&[&full[..], b"-1\n"].concat(), Err((7, full.len() as u32)));
+        self.font(&[&full[..], b"5\n"].concat(), Err((8, full.len() as u64)));
+        self.font(&[&full[..], b"-1\n"].concat(), Err((7, full.len() as u64)));
         let mut long = font;
         long.resize(65536, b' ');
         self.font(&long, reads(102));
@@ -227,13 +225,13 @@ impl Check {
     /// "A 257th command or 65th stage", and the order on one line.
     fn controls(&mut self) {
         let full = "t A B\n".repeat(256);
-        let mut all: Vec<(String, Answer)> = CONTROLS.iter().map(|(f, a)| (f.to_string(), *a)).collect();
-        all.push((full.clone() + &"f\n".repeat(63), Ok(64 << 16 | 256)));
+        let mut all: Vec<(String, Apart)> = CONTROLS.iter().map(|(f, a)| (f.to_string(), *a)).collect();
+        all.push((full.clone() + &"f\n".repeat(63), Ok([0, 64, 256])));
         all.push((full.clone() + &"f\n".repeat(64), Err((14, 1662))));
         all.push((full.clone() + "t A", Err((11, 1536))));
         all.push((full.clone() + "t a-b a-c", Err((12, 1536))));
         all.push((full + "t A B", Err((14, 1536))));
-        all.push(("\n".repeat(16384), Ok(1 << 16)));
+        all.push(("\n".repeat(16384), Ok([0, 1, 0])));
         all.push(("\n".repeat(16385), Err((10, 0))));
         for (file, must) in all {
             let (x, y) = (calls::check_control(file.as_bytes()), plain::check_control(file.as_bytes()));

@@ -3,8 +3,8 @@
 use mathlib.Core.Path.{sym, ap, _∙_}
 use Rattle.flc.specs.declared.ControlAnswer.{ControlAnswer}
 use Rattle.wattleslate.specs.ControlCall.{controlTells}
-use Rattle.capi.specs.Numbers.{packed, controlNumber}
-use Rattle.capi.proofs.Bounds.{pair-packs, control-packs, control-pairs}
+use Rattle.capi.specs.Numbers.{controlNumber}
+use Rattle.capi.proofs.Bounds.{control-refusal-fits, control-values-fit}
 use borrow.Author.Needs.{needs}
 use Rattle.capi.proofs.wattleslate_check_control.Statement.{statement}
 use Rattle.capi.proofs.wattleslate_check_control.Tie as tie
@@ -27,23 +27,20 @@ read-lists-requires c κs = search needs
 enum-known-commands : tie.Need-enum-known-commands
 enum-known-commands c = search needs
 
-paired-requires : tie.Need-paired-requires
-paired-requires c κs = control-pairs _ _ _ (sym (c .before .commands .given .1) ∙ c .before .before .before .before .before .before .before .read-lists .ensures .answer)
-
-packed-requires : tie.Need-packed-requires
-packed-requires c κs = pair-packs _ _ _ (c .paired .ensures) (control-pairs _ _ _ (sym (c .before .before .commands .given .1) ∙ c .before .before .before .before .before .before .before .before .read-lists .ensures .answer))
+three-values-requires : tie.Need-three-values-requires
+three-values-requires c κs = control-values-fit _ _ _ (sym (c .before .commands .given .1) ∙ c .before .before .before .before .before .before .before .read-lists .ensures .answer)
 
 enum-known-r : tie.Need-enum-known-r
 enum-known-r c = search needs
 
-packed-requires-2 : tie.Need-packed-requires-2
-packed-requires-2 c κs = control-packs _ _ (sym (c .before .r .given .1) ∙ c .before .before .before .before .before .before .before .read-lists .ensures .answer)
+refused-at-requires : tie.Need-refused-at-requires
+refused-at-requires c κs = control-refusal-fits _ _ (sym (c .before .r .given .1) ∙ c .before .before .before .before .before .before .before .read-lists .ensures .answer)
 
 returns : tie.Need-returns
-returns c = c .packed .ensures ∙ ap (packed 0) (c .before .paired .ensures) ∙ ap (λ (a : ControlAnswer). controlNumber (controlTells a)) (sym (c .before .before .before .commands .given .1) ∙ c .before .before .before .before .before .before .before .before .before .read-lists .ensures .answer)
+returns c = c .three-values .ensures ∙ ap (λ (a : ControlAnswer). controlNumber (controlTells a)) (sym (c .before .before .commands .given .1) ∙ c .before .before .before .before .before .before .before .before .read-lists .ensures .answer)
 
 returns-2 : tie.Need-returns-2
-returns-2 c = c .packed2 .ensures ∙ ap (λ (a : ControlAnswer). controlNumber (controlTells a)) (sym (c .before .before .r .given .1) ∙ c .before .before .before .before .before .before .before .before .read-lists .ensures .answer)
+returns-2 c = c .refused-at .ensures ∙ ap (λ (a : ControlAnswer). controlNumber (controlTells a)) (sym (c .before .before .r .given .1) ∙ c .before .before .before .before .before .before .before .before .read-lists .ensures .answer)
 
 pub wattleslate-check-control-spec : {M : Type 1} → statement M
 wattleslate-check-control-spec =
@@ -55,9 +52,8 @@ wattleslate-check-control-spec =
     slice-aggregate-read-lists-4
     read-lists-requires
     enum-known-commands
-    paired-requires
-    packed-requires
+    three-values-requires
     enum-known-r
-    packed-requires-2
+    refused-at-requires
     returns
     returns-2)

@@ -4,7 +4,7 @@ use mathlib.Core.Path.{sym, ap, _∙_}
 use Rattle.wattleslate.specs.DrawCall.{drawTells}
 use Rattle.figure.specs.declared.DrawAnswer.the-variants.{Drawn, Refused}
 use Rattle.capi.specs.Numbers.{drawNumber}
-use Rattle.capi.proofs.Bounds.{draw-packs}
+use Rattle.capi.proofs.Bounds.{draw-fits}
 use borrow.Author.Needs.{needs}
 use Rattle.capi.proofs.wattleslate_draw.Statement.{statement}
 use Rattle.capi.proofs.wattleslate_draw.Tie as tie
@@ -15,14 +15,14 @@ draw-requires c κs = search needs
 enum-known-width : tie.Need-enum-known-width
 enum-known-width c = search needs
 
-packed-requires : tie.Need-packed-requires
-packed-requires c κs = draw-packs _ _ _ _ _ (Drawn _) (sym (ap drawTells (c .before .width .given .1)) ∙ c .before .before .before .before .before .before .before .draw .ensures .0)
+three-values-requires : tie.Need-three-values-requires
+three-values-requires c κs = draw-fits _ _ _ _ _ (Drawn _) (sym (ap drawTells (c .before .width .given .1)) ∙ c .before .before .before .before .before .before .before .draw .ensures .0)
 
 enum-known-r : tie.Need-enum-known-r
 enum-known-r c = search needs
 
-packed-requires-2 : tie.Need-packed-requires-2
-packed-requires-2 c κs = draw-packs _ _ _ _ _ (Refused _) (sym (ap drawTells (c .before .r .given .1)) ∙ c .before .before .before .before .before .before .before .draw .ensures .0)
+refused-at-requires : tie.Need-refused-at-requires
+refused-at-requires c κs = draw-fits _ _ _ _ _ (Refused _) (sym (ap drawTells (c .before .r .given .1)) ∙ c .before .before .before .before .before .before .before .draw .ensures .0)
 
 same-length : tie.Need-same-length
 same-length c = search needs
@@ -31,7 +31,7 @@ same-length-2 : tie.Need-same-length-2
 same-length-2 c = search needs
 
 returns : tie.Need-returns
-returns c = let e = c .before .before .before .before .before .before .before .before .draw .ensures in (c .packed .ensures ∙ ap drawNumber (sym (ap drawTells (c .before .before .width .given .1)) ∙ e .0), e .1)
+returns c = let e = c .before .before .before .before .before .before .before .before .draw .ensures in (c .three-values .ensures ∙ ap drawNumber (sym (ap drawTells (c .before .before .width .given .1)) ∙ e .0), e .1)
 
 same-length-3 : tie.Need-same-length-3
 same-length-3 c = search needs
@@ -40,7 +40,7 @@ same-length-4 : tie.Need-same-length-4
 same-length-4 c = search needs
 
 returns-2 : tie.Need-returns-2
-returns-2 c = let e = c .before .before .before .before .before .before .before .before .draw .ensures in (c .packed2 .ensures ∙ ap drawNumber (sym (ap drawTells (c .before .before .r .given .1)) ∙ e .0), e .1)
+returns-2 c = let e = c .before .before .before .before .before .before .before .before .draw .ensures in (c .refused-at .ensures ∙ ap drawNumber (sym (ap drawTells (c .before .before .r .given .1)) ∙ e .0), e .1)
 
 pub wattleslate-draw-spec : {M : Type 1} → statement M
 wattleslate-draw-spec =
@@ -48,9 +48,9 @@ wattleslate-draw-spec =
     (tie.spec
     draw-requires
     enum-known-width
-    packed-requires
+    three-values-requires
     enum-known-r
-    packed-requires-2
+    refused-at-requires
     same-length
     same-length-2
     returns

@@ -18,11 +18,11 @@ enum-known-r c = search needs
 
 returns : tie.Need-returns
 unfolding listedAt
-returns c = sym (ap (λ (x : CharStep). listedThen x (c .before .before .before .before .before .args .code) (c .before .before .before .before .before .args .at)) (sym (c .before .before .before .char-at .ensures) ∙ c .before .width .given .1))
+returns c = sym (ap (λ (x : CharStep). listedThen x (c .before .before .before .before .before .args .code) (c .before .before .before .before .before .args .cursor .at)) (sym (c .before .before .before .char-at .ensures) ∙ c .before .width .given .1))
 
 returns-2 : tie.Need-returns-2
 unfolding listedAt
-returns-2 c = sym (ap (λ (x : CharStep). listedThen x (c .before .before .before .before .before .args .code) (c .before .before .before .before .before .args .at)) (sym (c .before .before .before .char-at .ensures) ∙ c .before .r .given .1))
+returns-2 c = sym (ap (λ (x : CharStep). listedThen x (c .before .before .before .before .before .args .code) (c .before .before .before .before .before .args .cursor .at)) (sym (c .before .before .before .char-at .ensures) ∙ c .before .r .given .1))
 
 pub listed-at-spec : {M : Type 1} → statement M
 listed-at-spec =

@@ -10,8 +10,8 @@ use Rattle.chars.proofs.ListingLaws.{tag-line, tag-missed}
 use Rattle.chars.proofs.tag_at.Statement.{statement}
 use Rattle.chars.proofs.tag_at.Tie as tie
 
-found : (c : tie.After-known-told) → LineFound (c .before .before .before .before .before .args .s .now) (c .before .before .before .before .before .args .at) (c .before .start .given .0 .0) (c .before .start .given .0 .1 .0) (c .before .start .given .0 .1 .1 .0)
-found c = line-found (c .before .before .before .before .before .args .s .now) (c .before .before .before .before .before .args .at) _ _ _ (sym (c .before .start .given .1) ∙ c .before .before .before .next .ensures)
+found : (c : tie.After-known-told) → LineFound (c .before .before .before .before .before .args .s .now) (c .before .before .before .before .before .args .cursor .at) (c .before .start .given .0 .0) (c .before .start .given .0 .1 .0) (c .before .start .given .0 .1 .1 .0)
+found c = line-found (c .before .before .before .before .before .args .s .now) (c .before .before .before .before .before .args .cursor .at) _ _ _ (sym (c .before .start .given .1) ∙ c .before .before .before .next .ensures)
 
 next-requires : tie.Need-next-requires
 next-requires c κs = search needs
@@ -43,13 +43,13 @@ enum-told-2 c = search needs
 returns : tie.Need-returns
 returns c =
     let l = c .before .before .before .before .before in
-    let there : TagStep → TagAt = λ t. tagThen t (l .before .start .given .0 .1 .1 .0 .at) in
+    let there : TagStep → TagAt = λ t. tagThen t (l .before .start .given .0 .1 .1 .0) in
     sym (ap there (c .before .code .given .1)) ∙ tag-line _ _ _ _ _ (found l) (c .before .before .before .tag-of .result) (c .before .before .before .tag-of .ensures)
 
 returns-2 : tie.Need-returns-2
 returns-2 c =
     let l = c .before .before .before .before in
-    let there : TagStep → TagAt = λ t. tagThen t (l .before .start .given .0 .1 .1 .0 .at) in
+    let there : TagStep → TagAt = λ t. tagThen t (l .before .start .given .0 .1 .1 .0) in
     sym (ap there (c .enum-told .given .1)) ∙ tag-line _ _ _ _ _ (found l) (c .before .before .tag-of .result) (c .before .before .tag-of .ensures)
 
 returns-3 : tie.Need-returns-3

@@ -1,10 +1,13 @@
 -- `drawing::draw_text` meets its contract.
 -- Assumes nothing.
-use mathlib.Core.Path.{sym, subst}
+use mathlib.Core.Path.{_≡_, refl, sym, subst}
 use native.Mathlib.Omega.{arith}
 use lib.ListN.{length}
-use Rattle.drawing.specs.Drawing.{Lined, PutOut}
-use Rattle.drawing.proofs.CharacterLaws.{few-rows, held-said}
+use Rattle.subchars.specs.declared.Mode.{Mode}
+use Rattle.source.specs.Source.{fontSource}
+use Rattle.source.specs.Held.{Gives, of-font}
+use Rattle.source.proofs.CharacterLaws.{few-rows}
+use Rattle.drawing.specs.Drawing.{textCodes, lineOf, Lined, lined, PutOut}
 use Rattle.drawing.proofs.OutputLaws.{text-long, text-lined}
 use borrow.Author.Needs.{needs}
 use Rattle.drawing.proofs.draw_text.Statement.{statement}
@@ -21,16 +24,18 @@ returns c =
     let a = c .before .before .before .before .before .before .before .before .before .before .before .before .before .args in
     λ control held.
     subst (λ (l : Lined). PutOut l (length (a .out .now)) (c .before .before .refuse .result) (c .before .before .refuse .last .1 .0))
-    (sym (text-long (a .font .now) control (a .text .now) (a .header) _ _ _ (held-said _ _ _ _ _ _ _ (c .before .before .before .before .before .before .before .before .before .before .before .before .before .pre .0)) (held .said) (c .before .before .before .before .if1 .taken))) (c .before .before .refuse .ensures)
+    (sym (text-long (a .font .now) control (a .text .now) (a .header) _ _ _ (c .before .before .before .before .before .before .before .before .before .before .before .before .before .pre .0 .said) (held .said) (c .before .before .before .before .if1 .taken))) (c .before .before .refuse .ensures)
 
 mode-of-requires : tie.Need-mode-of-requires
 mode-of-requires c κs = search needs
 
 join-text-requires : tie.Need-join-text-requires
-join-text-requires c κs = (c .before .before .before .before .before .before .before .before .before .before .before .pre .0, (c .before .before .before .before .before .before .before .before .before .before .before .pre .1 .0, (c .before .mode-of .ensures, c .before .before .before .before .before .before .before .before .before .before .before .pre .1 .1)))
+join-text-requires c κs =
+    let p = c .before .before .before .before .before .before .before .before .before .before .before .pre in
+    ((fontSource _ (p .0 .characters), of-font (c .before .before .before .before .before .before .before .before .before .before .before .args .header) (p .0) refl refl), (p .1 .0, (omega arith, p .1 .1)))
 
 put-out-requires : tie.Need-put-out-requires
-put-out-requires c κs = ((few-rows _ _ _ _ _ _ _ (c .before .before .before .before .before .before .before .before .before .before .before .before .before .before .before .before .pre .0), omega (arith, c .before .before .before .before .join-text .kept .0, c .before .before .before .before .before .before .before .before .before .before .before .before .before .before .before .before .pre .1 .1)), c .before .before .before .before .before .before .mode-of .ensures)
+put-out-requires c κs = (few-rows _ _ _ _ _ _ _ (c .before .before .before .before .before .before .before .before .before .before .before .before .before .before .before .before .pre .0), omega (arith, c .before .before .before .before .join-text .kept .0, c .before .before .before .before .before .before .before .before .before .before .before .before .before .before .before .before .pre .1 .1))
 
 same-length-2 : tie.Need-same-length-2
 same-length-2 c = search needs
@@ -41,10 +46,12 @@ same-length-3 c = search needs
 returns-2 : tie.Need-returns-2
 returns-2 c =
     let a = c .before .before .before .before .before .before .before .before .before .before .before .before .before .before .before .before .before .before .before .args in
+    let f = c .before .before .before .before .before .before .before .before .before .before .before .before .before .before .before .before .before .before .before .pre .0 in
     λ control held.
     subst (λ (l : Lined). PutOut l (length (a .out .now)) (c .before .before .put-out .result) (c .before .before .put-out .last .0))
-    (sym (text-lined (a .font .now) control (a .text .now) (a .header) _ _ _ (held-said _ _ _ _ _ _ _ (c .before .before .before .before .before .before .before .before .before .before .before .before .before .before .before .before .before .before .before .pre .0)) (held .said) (c .before .before .before .before .before .before .before .before .before .before .if1 .left)))
-    (c .before .before .put-out .ensures _ (c .before .before .before .before .before .before .before .join-text .ensures control held))
+    (sym (text-lined (a .font .now) control (a .text .now) (a .header) _ _ _ (f .said) (held .said) (c .before .before .before .before .before .before .before .before .before .before .if1 .left)))
+    (subst (λ (y : Mode). PutOut (lined y (a .header .height) (lineOf y (a .header .height) (fontSource (a .font .now) (f .characters)) (textCodes (held .commands) (held .count) (a .text .now)))) (length (a .out .now)) (c .before .before .put-out .result) (c .before .before .put-out .last .0)) (c .before .before .before .before .before .before .before .before .before .mode-of .ensures)
+    (c .before .before .put-out .ensures _ (c .before .before .before .before .before .before .before .join-text .ensures (fontSource (a .font .now) (f .characters)) (of-font (a .header) f refl refl) control held)))
 
 pub draw-text-spec : {M : Type 1} → statement M
 draw-text-spec =

@@ -12,7 +12,7 @@ same-length : tie.Need-same-length
 same-length c = search needs
 
 returns : tie.Need-returns
-returns c = λ line reached. lined-out _ _ _ line reached _ _ (c .before .before .before .before .before .before .pre .1) _ _ (c .before .before .put-out .ensures .0) (c .before .before .put-out .ensures .1)
+returns c = λ line reached. lined-out _ _ _ _ line reached _ _ _ (c .before .before .put-out .ensures .0) (c .before .before .put-out .ensures .1)
 
 pub put-out-spec : {M : Type 1} → statement M
 put-out-spec = tie.close (tie.spec put-out-requires same-length returns)

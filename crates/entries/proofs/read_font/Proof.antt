@@ -54,12 +54,12 @@ use denote.Exit.{yes}
 use Rattle.chars.specs.declared.Entry.{Entry}
 use Rattle.chars.proofs.Entry as E
 use Rattle.chars.proofs.Entry.Laws as E′
-use Rattle.font.specs.Font.{Reading}
+use Rattle.font.specs.Font.{FontReading}
 use Rattle.reader.specs.declared.FontAnswer.{FontAnswer}
-use Rattle.reader.specs.Reader.{answerOf}
+use Rattle.reader.specs.Reader.{fontAnswer}
 use Rattle.entries.specs.declared.listing.Listed.{Listed}
 use Rattle.entries.specs.Filling.{fontReading, zeroEntry, indexOf, fontTells, fontTold}
-use Rattle.entries.specs.Steps.{listedOf}
+use Rattle.entries.specs.Steps.{arrayLength, listedOf}
 use Rattle.reader.proofs.FontAnswer as F
 use Rattle.reader.proofs.FontAnswer.Laws as F′
 use Rattle.entries.proofs.listing.Listed as L
@@ -103,7 +103,7 @@ abbrev entries : Ty
 entries = sliceTy (tyRef (named 1) mut (pointee (R .written)))
 
 abbrev array : Ty
-array = tyArray E′.mir 513
+array = tyArray E′.mir arrayLength
 
 -- the function with its locals' types under the names that the walk uses: the walk would spell them anew at each step
 abbrev fn : Fn
@@ -126,11 +126,11 @@ each-entry [] (u ∷ us) s = absurd s
 each-entry (x ∷ xs) [] s = absurd s
 each-entry (x ∷ xs) (u ∷ us) s = (s .0, each-entry xs us (s .1))
 
-entries-are : (d : Listed) (vs : List Val) → Is L.the-row d vs → Is (Array R 513) (d .entries) (array-vals vals (d .entries))
+entries-are : (d : Listed) (vs : List Val) → Is L.the-row d vs → Is (Array R arrayLength) (d .entries) (array-vals vals (d .entries))
 entries-are d vs g =
     let p = SL.owed L.the-type L′.the-laws d vs g .1 .0 in
-    let q : Is (Array R 513) (d .entries) _ = (p .0, ((p .1 .0 .0, sym (length-map (d .entries) (E.the-field .into)) ∙ p .1 .0 .1), each-entry (d .entries) (p .0) (p .1 .1))) in
-    subst (Is (Array R 513) (d .entries)) (array-tells R vals tells 513 (d .entries) _ q) q
+    let q : Is (Array R arrayLength) (d .entries) _ = (p .0, ((p .1 .0 .0, sym (length-map (d .entries) (E.the-field .into)) ∙ p .1 .0 .1), each-entry (d .entries) (p .0) (p .1 .1))) in
+    subst (Is (Array R arrayLength) (d .entries)) (array-tells R vals tells arrayLength (d .entries) _ q) q
 
 answer-is : (d : Listed) (vs : List Val) → Is L.the-row d vs → Is F.the-row (d .answer) (F′.lowered (d .answer) ∷ [])
 answer-is d vs g =
@@ -168,11 +168,11 @@ module _ {M : Type 1} (𝓤 : URA M) (H : Heap 𝓤) (A : Atoms 𝓤) (W : Given
   at = (vf ∷ [], (sl ∷ [], tt))
 
   -- what the font says, the array, what the index is to hold, and what it holds after i stores
-  abbrev m : Reading
+  abbrev m : FontReading
   m = fontReading n (now xf)
 
   abbrev es : List Entry
-  es = indexOf m 513
+  es = indexOf m arrayLength
 
   abbrev zs : List Entry
   zs = indexOf m n
@@ -181,10 +181,10 @@ module _ {M : Type 1} (𝓤 : URA M) (H : Heap 𝓤) (A : Atoms 𝓤) (W : Given
   hold i = moved zs ys i
 
   abbrev answer : FontAnswer
-  answer = answerOf m
+  answer = fontAnswer m
 
   abbrev Good : Type 0
-  Good = Is (Array R 513) es (array-vals vals es) × Is F.the-row answer (F′.lowered answer ∷ [])
+  Good = Is (Array R arrayLength) es (array-vals vals es) × Is F.the-row answer (F′.lowered answer ∷ [])
 
   length-zs : length zs ≡ n
   length-zs = index-room (now xf) n
@@ -326,7 +326,7 @@ module _ {M : Type 1} (𝓤 : URA M) (H : Heap 𝓤) (A : Atoms 𝓤) (W : Given
             rewrite ! 0 (λ (l : List Entry). ‵ (row R fullShare l b o)) (moved-all zeroEntry zs ys length-zs) refl $
             move ! (0 ∷ 16 ∷ 17 ∷ 18 ∷ []) $ closes-slice ! tt R ys zs length-zs b o $
             -- [obs; the borrow; the index's token; the array; _5; _7; _8; _9; _10; _11; _12; _13; _14; _2; _1; _3; _6; _0; the font's token; what the font owns; that _0 dies; …]
-            move ! (3 ∷ []) $ use1 W (‵ (froom array l₄ 0)) (row-room 𝓤 H A W R 513 l₄ 0 vals tells es (good .0 .1 .0 .1)) $
+            move ! (3 ∷ []) $ use1 W (‵ (froom array l₄ 0)) (row-room 𝓤 H A W R arrayLength l₄ 0 vals tells es (good .0 .1 .0 .1)) $
             -- [room for _4; obs; the borrow; the index's token; _5; …]
             returns ! (look ! 17 refl) $ forget ! 4 refl $ forget ! 5 refl $ forget ! 6 refl $ forget ! 13 refl $ forget ! 14 refl $ forget ! 15 refl $ forget ! 17 refl $
             move ! (17 ∷ 20 ∷ []) $ free1 ! $ move ! (14 ∷ 19 ∷ []) $ free1 ! $ move ! (13 ∷ 18 ∷ []) $ free1 ! $ move ! (13 ∷ 17 ∷ []) $ free1 ! $ move ! (0 ∷ 16 ∷ []) $ free1 ! $ move ! (3 ∷ 15 ∷ []) $ free1 ! $ move ! (11 ∷ 14 ∷ []) $ free1 ! $
@@ -353,9 +353,9 @@ module _ {M : Type 1} (𝓤 : URA M) (H : Heap 𝓤) (A : Atoms 𝓤) (W : Given
         rewrite ! 26 (λ (w : Val). ‵ (fat fullShare L′.mir l₃ 0 w)) (ap only (L′.lowers .val-is (listedOf m) (v ∷ []) g)) refl $
         -- the array is made a row, the index is opened, and the loop starts
         assigns ! (of-opd ! (load ! (from ! (fld ! refl (stop !))) (look-in ! 26 (sub ! 1 refl (whole !))))) (from ! (stop !))
-        (init ! 24 refl (array-lawful 𝓤 H A W R (SL.lawful E.the-type E′.the-laws 𝓤 H A W) 513 .typed es (array-vals vals es) (entries-are (listedOf m) (v ∷ []) g) .0)) $
+        (init ! 24 refl (array-lawful 𝓤 H A W R (SL.lawful E.the-type E′.the-laws 𝓤 H A W) arrayLength .typed es (array-vals vals es) (entries-are (listedOf m) (v ∷ []) g) .0)) $
         assigns ! (of-opd ! (lit ! tt)) (from ! (stop !)) (init ! 22 refl (tt, record { fits = lit< tt })) $ forget ! 20 refl $
-        move ! (24 ∷ []) $ use1 W (‵ (row R fullShare es l₄ 0)) (lies-row 𝓤 H A W R 513 l₄ 0 tt (makes 𝓤 H A) es (only (array-vals vals es)) (entries-are (listedOf m) (v ∷ []) g)) $
+        move ! (24 ∷ []) $ use1 W (‵ (row R fullShare es l₄ 0)) (lies-row 𝓤 H A W R arrayLength l₄ 0 tt (makes 𝓤 H A) es (only (array-vals vals es)) (entries-are (listedOf m) (v ∷ []) g)) $
         -- [the array; the font's token; the index's; what the font owns; what the index owns; _14; …]
         move ! (4 ∷ []) $ fsplit ! $ fsplit ! $ drop ! $ fsplit ! $ move ! (5 ∷ []) $ split ! $ move ! (2 ∷ 3 ∷ 0 ∷ []) $ opens-slice ! tt R ys b o $
         -- [the index; the open borrow; obs; auth; true; true; the array; the font's token; what the font owns; _14; …]

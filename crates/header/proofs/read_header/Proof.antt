@@ -36,14 +36,14 @@ returns-2 c = c .refusal2 .ensures ∙ no-hardblank _ (yes-of _ _ (c .before .be
 shared-slice-read-h : tie.Need-shared-slice-read-h
 shared-slice-read-h c = search needs
 
-is-hardblank-requires : tie.Need-is-hardblank-requires
-is-hardblank-requires c κs = search needs
+legal-hardblank-requires : tie.Need-legal-hardblank-requires
+legal-hardblank-requires c κs = search needs
 
 refusal-requires-3 : tie.Need-refusal-requires-3
 refusal-requires-3 c κs = search needs
 
 returns-3 : tie.Need-returns-3
-returns-3 c = c .refusal3 .ensures ∙ not-hardblank _ (yes-of _ _ (c .before .before .before .before .before .before .starts-with .ensures) (c .before .before .before .before .before .if1 .left)) (c .before .before .before .before .if2 .left) (no-of _ _ (c .before .before .is-hardblank .ensures) (c .before .if3 .taken))
+returns-3 c = c .refusal3 .ensures ∙ not-hardblank _ (yes-of _ _ (c .before .before .before .before .before .before .starts-with .ensures) (c .before .before .before .before .before .if1 .left)) (c .before .before .before .before .if2 .left) (no-of _ _ (c .before .before .legal-hardblank .ensures) (c .before .if3 .taken))
 
 refusal-requires-4 : tie.Need-refusal-requires-4
 refusal-requires-4 c κs = search needs
@@ -51,7 +51,7 @@ refusal-requires-4 c κs = search needs
 returns-4 : tie.Need-returns-4
 returns-4 c =
     c .refusal4 .ensures ∙
-    no-blank _ (yes-of _ _ (c .before .before .before .before .before .before .before .starts-with .ensures) (c .before .before .before .before .before .before .if1 .left)) (c .before .before .before .before .before .if2 .left) (yes-of _ _ (c .before .before .before .is-hardblank .ensures) (c .before .before .if3 .left)) (c .before .if4 .taken)
+    no-blank _ (yes-of _ _ (c .before .before .before .before .before .before .before .starts-with .ensures) (c .before .before .before .before .before .before .if1 .left)) (c .before .before .before .before .before .if2 .left) (yes-of _ _ (c .before .before .before .legal-hardblank .ensures) (c .before .before .if3 .left)) (c .before .if4 .taken)
 
 shared-slice-read-is-blank : tie.Need-shared-slice-read-is-blank
 shared-slice-read-is-blank c = search needs
@@ -65,7 +65,7 @@ refusal-requires-5 c κs = search needs
 returns-5 : tie.Need-returns-5
 returns-5 c =
     c .refusal5 .ensures ∙
-    not-blank _ (yes-of _ _ (c .before .before .before .before .before .before .before .before .before .before .starts-with .ensures) (c .before .before .before .before .before .before .before .before .before .if1 .left)) (c .before .before .before .before .before .before .before .before .if2 .left) (yes-of _ _ (c .before .before .before .before .before .before .is-hardblank .ensures) (c .before .before .before .before .before .if3 .left)) (c .before .before .before .before .if4 .left)
+    not-blank _ (yes-of _ _ (c .before .before .before .before .before .before .before .before .before .before .starts-with .ensures) (c .before .before .before .before .before .before .before .before .before .if1 .left)) (c .before .before .before .before .before .before .before .before .if2 .left) (yes-of _ _ (c .before .before .before .before .before .before .legal-hardblank .ensures) (c .before .before .before .before .before .if3 .left)) (c .before .before .before .before .if4 .left)
     (no-of _ _ (c .before .before .is-blank .ensures) (c .before .if5 .taken))
 
 sub-find-numbers : tie.Need-sub-find-numbers
@@ -85,7 +85,7 @@ header-of-requires c κs = search needs
 
 returns-6 : tie.Need-returns-6
 returns-6 c =
-    numbered _ (yes-of _ _ (c .before .before .before .before .before .before .before .before .before .before .before .before .starts-with .ensures) (c .before .before .before .before .before .before .before .before .before .before .before .if1 .left)) (c .before .before .before .before .before .before .before .before .before .before .if2 .left) (yes-of _ _ (c .before .before .before .before .before .before .before .before .is-hardblank .ensures) (c .before .before .before .before .before .before .before .if3 .left)) _ _ (c .before .before .before .before .before .before .if4 .left)
+    numbered _ (yes-of _ _ (c .before .before .before .before .before .before .before .before .before .before .before .before .starts-with .ensures) (c .before .before .before .before .before .before .before .before .before .before .before .if1 .left)) (c .before .before .before .before .before .before .before .before .before .before .if2 .left) (yes-of _ _ (c .before .before .before .before .before .before .before .before .legal-hardblank .ensures) (c .before .before .before .before .before .before .before .if3 .left)) _ _ (c .before .before .before .before .before .before .if4 .left)
     (yes-of _ _ (c .before .before .before .before .is-blank .ensures) (c .before .before .before .if5 .left)) (c .before .find-numbers .ensures) (c .header-of .ensures)
 
 pub read-header-spec : {M : Type 1} → statement M
@@ -99,7 +99,7 @@ read-header-spec =
     refusal-requires-2
     returns-2
     shared-slice-read-h
-    is-hardblank-requires
+    legal-hardblank-requires
     refusal-requires-3
     returns-3
     refusal-requires-4

@@ -10,18 +10,18 @@ use lib.ListN.{set}
 use mir.Syntax.{w32}
 use mir.Val.{toZ, ofZ}
 use Rattle.ground.specs.Limits.{maxCharacters}
-use Rattle.index.proofs.FillLaws.{listed-room, Held, held-none, held-more, held-done, held-failed}
+use Rattle.index.proofs.FillLaws.{listed-room, CharactersHeld, held-none, held-more, held-done, held-failed}
 use Rattle.index.proofs.fill.Statement.{statement}
 use Rattle.index.proofs.fill.Tie as tie
 
 abbrev Inv-loop : tie.InvT-loop
-Inv-loop f s from codes₀ starts₀ widths₀ at₀ n₀ codes starts widths at n = Held f s from codes₀ starts₀ widths₀ codes starts widths at n
+Inv-loop f s codes₀ starts₀ widths₀ c₀ n₀ codes starts widths c n = CharactersHeld f s (c₀ .at) codes₀ starts₀ widths₀ codes starts widths (c .at) n
 
 abbrev μ-loop : tie.MeasureT-loop
-μ-loop f s from codes₀ starts₀ widths₀ at₀ n₀ codes starts widths at n = maxCharacters - n
+μ-loop f s codes₀ starts₀ widths₀ c₀ n₀ codes starts widths c n = maxCharacters - n
 
 room : (c : tie.After-struct-told Inv-loop μ-loop) → c .before .before .before .before .before .before .loop .n < maxCharacters
-room c = listed-room _ _ (c .before .before .before .before .before .before .loop .at) (c .before .before .before .before .before .before .loop .n) _ _ (sym (c .before .before .before .entry .given .1) ∙ c .before .before .before .before .before .next-char .ensures)
+room c = listed-room _ _ (c .before .before .before .before .before .before .loop .cursor .at) (c .before .before .before .before .before .before .loop .n) _ _ (sym (c .before .before .before .entry .given .1) ∙ c .before .before .before .before .before .next-char .ensures)
 
 loop-holds : tie.Need-loop-holds Inv-loop μ-loop
 loop-holds c = held-none _ _ _ _ _ _
@@ -63,8 +63,8 @@ loop-again c =
     let e = c .before .before .before .entry .given .0 .0 in
     let next = c .before .before .before .entry .given .0 .1 .0 in
     let z : toZ w32 (ofZ w32 (e .code .0)) ≡ e .code .0 = search needs in
-    let h = held-more (a .f) (a .s .now) (a .from) (a .codes .now) (a .starts .now) (a .widths .now) (c .before .before .before .before .before .before .before .before .before .before .pre) (l .codes) (l .starts) (l .widths) (l .at) (l .n) (l .inv) e next (sym (c .before .before .before .entry .given .1) ∙ c .before .before .before .before .before .next-char .ensures) in
-    subst (λ (y : ℤ). Held (a .f) (a .s .now) (a .from) (a .codes .now) (a .starts .now) (a .widths .now) (set (l .codes) (l .n) y) (set (l .starts) (l .n) (e .start)) (set (l .widths) (l .n) (e .width)) next (l .n + 1)) (sym z) h
+    let h = held-more (a .f) (a .s .now) (a .from .at) (a .codes .now) (a .starts .now) (a .widths .now) (c .before .before .before .before .before .before .before .before .before .before .pre) (l .codes) (l .starts) (l .widths) (l .cursor .at) (l .n) (l .inv) e next (sym (c .before .before .before .entry .given .1) ∙ c .before .before .before .before .before .next-char .ensures) in
+    subst (λ (y : ℤ). CharactersHeld (a .f) (a .s .now) (a .from .at) (a .codes .now) (a .starts .now) (a .widths .now) (set (l .codes) (l .n) y) (set (l .starts) (l .n) (e .start)) (set (l .widths) (l .n) (e .width)) (next .at) (l .n + 1)) (sym z) h
 
 enum-told : tie.Need-enum-told Inv-loop μ-loop
 enum-told c = search needs
@@ -81,7 +81,7 @@ same-length-3 c = c .before .before .before .loop .inv .long-widths
 returns : tie.Need-returns Inv-loop μ-loop
 returns c =
     let l = c .before .before .before .loop in
-    held-done _ (c .before .before .before .before .before .before .before .args .s .now) _ (c .before .before .before .before .before .before .before .args .codes .now) (c .before .before .before .before .before .before .before .args .starts .now) (c .before .before .before .before .before .before .before .args .widths .now) (c .before .before .before .before .before .before .before .pre) (l .codes) (l .starts) (l .widths) (l .at) (l .n) (l .inv) (sym (c .enum-told .given .1) ∙ c .before .before .next-char .ensures)
+    held-done _ (c .before .before .before .before .before .before .before .args .s .now) _ (c .before .before .before .before .before .before .before .args .codes .now) (c .before .before .before .before .before .before .before .args .starts .now) (c .before .before .before .before .before .before .before .args .widths .now) (c .before .before .before .before .before .before .before .pre) (l .codes) (l .starts) (l .widths) (l .cursor .at) (l .n) (l .inv) (sym (c .enum-told .given .1) ∙ c .before .before .next-char .ensures)
 
 enum-known-r : tie.Need-enum-known-r Inv-loop μ-loop
 enum-known-r c = search needs
@@ -98,7 +98,7 @@ same-length-6 c = c .before .before .before .before .loop .inv .long-widths
 returns-2 : tie.Need-returns-2 Inv-loop μ-loop
 returns-2 c =
     let l = c .before .before .before .before .loop in
-    held-failed _ (c .before .before .before .before .before .before .before .before .args .s .now) _ (c .before .before .before .before .before .before .before .before .args .codes .now) (c .before .before .before .before .before .before .before .before .args .starts .now) (c .before .before .before .before .before .before .before .before .args .widths .now) (c .before .before .before .before .before .before .before .before .pre) (l .codes) (l .starts) (l .widths) (l .at) (l .n) (l .inv) _ (sym (c .before .r .given .1) ∙ c .before .before .before .next-char .ensures)
+    held-failed _ (c .before .before .before .before .before .before .before .before .args .s .now) _ (c .before .before .before .before .before .before .before .before .args .codes .now) (c .before .before .before .before .before .before .before .before .args .starts .now) (c .before .before .before .before .before .before .before .before .args .widths .now) (c .before .before .before .before .before .before .before .before .pre) (l .codes) (l .starts) (l .widths) (l .cursor .at) (l .n) (l .inv) _ (sym (c .before .r .given .1) ∙ c .before .before .before .next-char .ensures)
 
 pub fill-spec : {M : Type 1} → statement M
 fill-spec =

@@ -4,7 +4,7 @@ use mathlib.Core.Path.{sym, ap, _∙_}
 use borrow.Author.Needs.{needs}
 use lib.IntN.{pos}
 use Rattle.index.specs.declared.Found.{Found}
-use Rattle.index.specs.LookUp.{lastAt, orElse, lookUp}
+use Rattle.index.specs.LookUp.{lastAt, orStandIn, lookUp}
 use Rattle.index.proofs.look_up.Statement.{statement}
 use Rattle.index.proofs.look_up.Tie as tie
 
@@ -22,11 +22,11 @@ find-requires-2 c κs = search needs
 
 returns : tie.Need-returns
 unfolding lookUp
-returns c = c .find2 .ensures ∙ sym (ap (λ (r : Found). orElse r (lastAt (pos 0) (c .before .before .before .before .args .codes .now))) (sym (c .before .before .before .find .ensures) ∙ c .before .enum-told .given .1))
+returns c = c .find2 .ensures ∙ sym (ap (λ (r : Found). orStandIn r (lastAt (pos 0) (c .before .before .before .before .args .codes .now))) (sym (c .before .before .before .find .ensures) ∙ c .before .enum-told .given .1))
 
 returns-2 : tie.Need-returns-2
 unfolding lookUp
-returns-2 c = sym (ap (λ (r : Found). orElse r (lastAt (pos 0) (c .before .before .before .before .args .codes .now))) (sym (c .before .before .before .find .ensures) ∙ c .before .k .given .1))
+returns-2 c = sym (ap (λ (r : Found). orStandIn r (lastAt (pos 0) (c .before .before .before .before .args .codes .now))) (sym (c .before .before .before .find .ensures) ∙ c .before .k .given .1))
 
 pub look-up-spec : {M : Type 1} → statement M
 look-up-spec =

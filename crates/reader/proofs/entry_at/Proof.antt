@@ -12,7 +12,7 @@ use Rattle.chars.specs.Chars.{entry}
 use Rattle.chars.specs.Codes.{code}
 use Rattle.index.specs.declared.Found.{Found}
 use Rattle.reader.specs.declared.Use.the-variants.{Used}
-use Rattle.reader.specs.Reader.{Within, atFound}
+use Rattle.reader.specs.Reader.{FoundBelow, atFound}
 use Rattle.reader.proofs.UseLaws.{parts-at}
 use Rattle.reader.proofs.entry_at.Statement.{statement}
 use Rattle.reader.proofs.entry_at.Tie as tie
@@ -21,7 +21,7 @@ enum-known-found : tie.Need-enum-known-found
 enum-known-found c = search needs
 
 inside : (c : tie.After-known-told) → c .before .found .given .0 .0 < c .before .before .before .args .count
-inside c = subst (Within (c .before .before .before .args .count)) (c .before .found .given .1) (c .before .before .before .pre .1)
+inside c = subst (FoundBelow (c .before .before .before .args .count)) (c .before .found .given .1) (c .before .before .before .pre .1)
 
 mul-t8 : tie.Need-mul-t8
 mul-t8 c = omega (arith, inside c, c .before .before .before .pre .0 .for-codes)

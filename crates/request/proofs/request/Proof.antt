@@ -2,6 +2,7 @@
 -- Assumes nothing.
 use mathlib.Core.Path.{sym, _∙_}
 use borrow.Author.Needs.{needs}
+use Rattle.lines.proofs.PlaceLaws.{skipped-to}
 use Rattle.request.proofs.RequestLaws.{row-found, row-high, row-missing, row-unread}
 use Rattle.request.proofs.request.Statement.{statement}
 use Rattle.request.proofs.request.Tie as tie
@@ -12,11 +13,11 @@ seek-requires c κs = search needs
 enum-known-height : tie.Need-enum-known-height
 enum-known-height c = search needs
 
-row-place-requires : tie.Need-row-place-requires
-row-place-requires c κs = search needs
+skip-requires : tie.Need-skip-requires
+skip-requires c κs = search needs
 
 returns : tie.Need-returns
-returns c = row-found _ _ _ _ _ (sym (c .before .before .before .height .given .1) ∙ c .before .before .before .before .before .seek .ensures) (c .before .if1 .taken) _ (c .row-place .ensures)
+returns c = row-found _ _ _ _ _ (sym (c .before .before .before .before .height .given .1) ∙ c .before .before .before .before .before .before .seek .ensures) (c .before .before .if1 .taken) _ (skipped-to _ _ _ _ (c .before .skip .ensures))
 
 bad-request-requires : tie.Need-bad-request-requires
 bad-request-requires c κs = search needs
@@ -45,7 +46,7 @@ request-spec =
     (tie.spec
     seek-requires
     enum-known-height
-    row-place-requires
+    skip-requires
     returns
     bad-request-requires
     enum-told

@@ -12,10 +12,10 @@ use Rattle.rows.proofs.RowLaws.{row-line}
 use Rattle.rows.proofs.row_at.Statement.{statement}
 use Rattle.rows.proofs.row_at.Tie as tie
 
-plain : (c : tie.After-known-told) → PlainLine (c .before .before .before .before .before .args .s .now) (c .before .before .before .before .before .args .at) (c .before .end .given .0 .0) (c .before .end .given .0 .1 .0 .at)
-plain c = plain-told (c .before .before .before .before .before .args .s .now) (c .before .before .before .before .before .args .at) _ _ _ (c .before .end .given .1) (c .before .before .before .next-plain .ensures)
+plain : (c : tie.After-known-told) → PlainLine (c .before .before .before .before .before .args .s .now) (c .before .before .before .before .before .args .cursor .at) (c .before .end .given .0 .0) (c .before .end .given .0 .1 .0 .at)
+plain c = plain-told (c .before .before .before .before .before .args .s .now) (c .before .before .before .before .before .args .cursor .at) _ _ _ (c .before .end .given .1) (c .before .before .before .next-plain .ensures)
 
-found : (c : tie.After-known-told) → LineFound (c .before .before .before .before .before .args .s .now) (c .before .before .before .before .before .args .at) (c .before .before .before .before .before .args .at) (c .before .end .given .0 .0) (c .before .end .given .0 .1 .0)
+found : (c : tie.After-known-told) → LineFound (c .before .before .before .before .before .args .s .now) (c .before .before .before .before .before .args .cursor .at) (c .before .before .before .before .before .args .cursor .at) (c .before .end .given .0 .0) (c .before .end .given .0 .1 .0)
 found c = plain-found _ _ _ _ (plain c)
 
 next-plain-requires : tie.Need-next-plain-requires

@@ -1,7 +1,7 @@
 -- `wattleslate::map_code` meets its contract, for every input.
 -- Assumes nothing.
 use borrow.Author.Needs.{needs}
-use Rattle.wattleslate.proofs.ControlCases.{usable, mapped-told, refused-told}
+use Rattle.wattleslate.proofs.MapCases.{usable, mapped-told, refused-told}
 use Rattle.wattleslate.proofs.map_code.Statement.{statement}
 use Rattle.wattleslate.proofs.map_code.Tie as tie
 

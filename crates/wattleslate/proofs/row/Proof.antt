@@ -1,11 +1,11 @@
 -- `wattleslate::row` meets its contract, for every input: a row that is given is a part of the font.
 -- Assumes nothing.
-use mathlib.Core.Path.{sym, _∙_}
+use mathlib.Core.Path.{refl, sym, _∙_}
 use Prim.Native.Nat.{_+_, _≤_}
 use lib.ListN.{length}
 use borrow.Author.Needs.{needs}
 use Rattle.request.proofs.RequestLaws.{row-fits}
-use Rattle.wattleslate.proofs.RowLaws.{row-part, part-by-request}
+use Rattle.wattleslate.proofs.RowLaws.{row-part, part-by-request, lies-there, lies-nowhere}
 use Rattle.wattleslate.proofs.row.Statement.{statement}
 use Rattle.wattleslate.proofs.row.Tie as tie
 
@@ -44,10 +44,16 @@ part-result-end-2 : tie.Need-part-result-end-2
 part-result-end-2 c = search needs
 
 returns : tie.Need-returns
-returns c = row-part (c .before .before .before .before .before .before .args .font .now) (c .before .before .before .before .before .before .args .code) (c .before .before .before .before .before .before .args .row) _ _ (sym (c .before .before .place .given .1) ∙ c .before .before .before .before .request .ensures)
+returns c =
+    let a = c .before .before .before .before .before .before .args in
+    let e = sym (c .before .before .place .given .1) ∙ c .before .before .before .before .request .ensures in
+    (row-part (a .font .now) (a .code) (a .row) _ _ e, lies-there (a .font .now) (a .code) (a .row) _ _ _ _ e refl refl)
 
 returns-2 : tie.Need-returns-2
-returns-2 c = part-by-request (c .before .before .before .before .before .args .font .now) (c .before .before .before .before .before .args .code) (c .before .before .before .before .before .args .row) _ (sym (c .before .enum-told .given .1) ∙ c .before .before .before .request .ensures)
+returns-2 c =
+    let a = c .before .before .before .before .before .args in
+    let e = sym (c .before .enum-told .given .1) ∙ c .before .before .before .request .ensures in
+    (part-by-request (a .font .now) (a .code) (a .row) _ e, lies-nowhere (a .font .now) (a .code) (a .row) _ _ _ e)
 
 pub row-spec : {M : Type 1} → statement M
 row-spec =

@@ -25,9 +25,10 @@ fn rate(each: u64, mut round: impl FnMut()) -> u64 {
 /// A drawing's rows without their LFs, as a block of the given width.
 fn block(font: &[u8], text: &str) -> (Vec<u8>, usize, usize) {
     let (mut scratch, mut out) = (vec![0; 32000], vec![0; 33000]);
-    let width = plain::draw::draw(font, b"", text.as_bytes(), &mut scratch, &mut out) as usize;
+    let answer = plain::draw::draw(font, b"", text.as_bytes(), &mut scratch, &mut out);
+    let [_, _, width] = calls::apart(answer).expect("a drawing");
     let height = out.iter().filter(|b| **b == b'\n').count();
-    (out.into_iter().filter(|b| *b != 0 && *b != b'\n').collect(), width, height)
+    (out.into_iter().filter(|b| *b != 0 && *b != b'\n').collect(), width as usize, height)
 }
 
 type Join = fn(&Request, &mut [u8]) -> u64;

@@ -17,7 +17,7 @@ impl Count {
     }
 
     fn add(&mut self, answer: u64) {
-        self.answers[(answer >> 32) as usize] += 1;
+        self.answers[calls::number(answer) as usize] += 1;
     }
 
     fn print(&self) {
@@ -80,10 +80,10 @@ fn compare_control(file: &[u8], count: &mut Count) {
 fn rooms(r: &mut Random, font: &[u8], control: &[u8], text: &[u8]) -> (usize, usize) {
     let scratch = if r.one_in(20) { r.between(31998, 32001) } else { 32000 };
     let mut out = vec![0; 33000];
-    let width = plain::draw::draw(font, control, text, &mut vec![0; 32000], &mut out);
+    let answer = plain::draw::draw(font, control, text, &mut vec![0; 32000], &mut out);
     let needed = out.iter().rposition(|b| *b != 0).map_or(0, |k| k + 1);
     let out = match r.below(24) {
-        _ if width >> 32 != 0 => r.below(100),
+        _ if calls::number(answer) != 0 => r.below(100),
         0 => needed.saturating_sub(1),
         1 => r.below(needed + 1),
         2 => needed + r.below(100),
@@ -95,7 +95,7 @@ fn rooms(r: &mut Random, font: &[u8], control: &[u8], text: &[u8]) -> (usize, us
 /// Cuts a long text where its line becomes too wide, or one byte behind.
 fn cut(r: &mut Random, font: &[u8], control: &[u8], text: &mut Vec<u8>) {
     let (mut scratch, mut out) = (vec![0; 32000], vec![0; 33000]);
-    let mut is_wide = |n: usize| plain::draw::draw(font, control, &text[..n], &mut scratch, &mut out) >> 32 == 16;
+    let mut is_wide = |n: usize| calls::number(plain::draw::draw(font, control, &text[..n], &mut scratch, &mut out)) == 16;
     let (mut fits, mut wide) = (0, text.len());
     if !is_wide(wide) {
         return;

@@ -36,7 +36,7 @@ fn output(line: &Block, hardblank: u8) -> Vec<u8> {
     bytes
 }
 
-fn answer(bytes: &[u8], file: &[u8], text: &[u8], scratch: usize, out: &mut [u8]) -> Result<u64, Refusal> {
+fn answer(bytes: &[u8], file: &[u8], text: &[u8], scratch: usize, out: &mut [u8]) -> Result<[usize; 3], Refusal> {
     if scratch < 32000 {
         return refuse(9, 0);
     }
@@ -54,7 +54,7 @@ fn answer(bytes: &[u8], file: &[u8], text: &[u8], scratch: usize, out: &mut [u8]
         return refuse(9, 0);
     }
     out[..drawn.len()].copy_from_slice(&drawn);
-    Ok(line.width as u64)
+    Ok([0, 0, line.width])
 }
 
 /// The width, with zeros behind the output and all through the scratch.

@@ -84,7 +84,7 @@ impl Request<'_> {
             && self.direction <= 1
     }
 
-    fn answer(&self, out: &mut [u8]) -> Result<u64, Refusal> {
+    fn answer(&self, out: &mut [u8]) -> Result<[usize; 3], Refusal> {
         if !self.is_good() {
             return refuse(17, 0);
         }
@@ -100,7 +100,7 @@ impl Request<'_> {
             return refuse(9, 0);
         }
         out[..bytes.len()].copy_from_slice(&bytes);
-        Ok((overlap as u64) << 16 | result.width as u64)
+        Ok([0, overlap, result.width])
     }
 }
 

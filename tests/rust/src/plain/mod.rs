@@ -19,20 +19,20 @@ pub fn refuse<T>(number: u64, place: usize) -> Result<T, Refusal> {
     Err(Refusal { number, place: place as u64 })
 }
 
-/// An answer as one number: a value, or a refusal's number above its place.
-pub fn packed(answer: Result<u64, Refusal>) -> u64 {
+/// An answer as one number: 0 in the upper 16 bits and three values of 16 bits, or a refusal's number above its place.
+pub fn packed(answer: Result<[usize; 3], Refusal>) -> u64 {
     match answer {
-        Ok(value) => value,
-        Err(r) => r.number << 32 | r.place,
+        Ok([a, b, c]) => (a as u64) << 32 | (b as u64) << 16 | c as u64,
+        Err(r) => r.number << 48 | r.place,
     }
 }
 
 /// Height and count of characters of a font.
 pub fn check_font(font: &[u8]) -> u64 {
-    packed(font::read(font).map(|f| (f.header.height as u64) << 16 | f.characters.len() as u64))
+    packed(font::read(font).map(|f| [0, f.header.height, f.characters.len()]))
 }
 
 /// Counts of stages and commands of a control file.
 pub fn check_control(file: &[u8]) -> u64 {
-    packed(control::read(file).map(|c| (c.stages as u64) << 16 | c.commands.len() as u64))
+    packed(control::read(file).map(|c| [0, c.stages, c.commands.len()]))
 }

@@ -13,6 +13,7 @@ use Rattle.chars.specs.declared.Entry.{Entry}
 use Rattle.chars.specs.Codes.{code}
 use Rattle.chars.specs.Chars.{entry}
 use Rattle.index.specs.Index.{Lists}
+use Rattle.entries.specs.Steps.{arrayLength}
 use Rattle.entries.specs.Filling.{zeroEntry}
 use Rattle.entries.proofs.Moved.{moved}
 use Rattle.entries.proofs.FillLaws.{listed-next, listed-all}
@@ -20,7 +21,7 @@ use Rattle.entries.proofs.listing.list_entries.Statement.{statement}
 use Rattle.entries.proofs.listing.list_entries.Tie as tie
 
 abbrev Inv-loop : tie.InvT-loop
-Inv-loop codes starts widths count entries₀ i₀ entries i = (i ≤ count) × (length entries ≡ 513) × ((es : List Entry) → count ≡ length es → Lists es codes starts widths → entries ≡ moved es (replicate 513 zeroEntry) i)
+Inv-loop codes starts widths count entries₀ i₀ entries i = (i ≤ count) × (length entries ≡ arrayLength) × ((es : List Entry) → count ≡ length es → Lists es codes starts widths → entries ≡ moved es (replicate arrayLength zeroEntry) i)
 
 abbrev μ-loop : tie.MeasureT-loop
 μ-loop codes starts widths count entries₀ i₀ entries i = count - i
@@ -67,14 +68,14 @@ loop-again c =
       omega arith,
       search needs,
       λ es e l.
-          listed-next es _ _ _ l _ (replicate 513 zeroEntry) i _ (omega arith) (omega (arith, l .few)) (ap (λ (y : ℤ). entry (code y) (getD (a .starts .now) i 0) (getD (a .widths .now) i 0)) z) (c .before .before .before .before .loop .inv .2 es e l),
+          listed-next es _ _ _ l _ (replicate arrayLength zeroEntry) i _ (omega arith) (omega (arith, l .few)) (ap (λ (y : ℤ). entry (code y) (getD (a .starts .now) i 0) (getD (a .widths .now) i 0)) z) (c .before .before .before .before .loop .inv .2 es e l),
     )
 
 returns : tie.Need-returns Inv-loop μ-loop
 returns c = λ es e l.
     let i = c .before .loop .i in
     let m : i ≡ length es = omega arith in
-    listed-all es _ _ _ l _ 513 (omega (arith, l .few)) (c .before .loop .inv .2 es e l ∙ ap (moved es (replicate 513 zeroEntry)) m)
+    listed-all es _ _ _ l _ arrayLength (omega (arith, l .few)) (c .before .loop .inv .2 es e l ∙ ap (moved es (replicate arrayLength zeroEntry)) m)
 
 pub list-entries-spec : {M : Type 1} → statement M
 list-entries-spec =

@@ -9,12 +9,12 @@ use lib.ListN.{set}
 use mir.Syntax.{w32}
 use mir.Val.{toZ, ofZ}
 use Rattle.header.specs.Header.{maxParameters}
-use Rattle.header.proofs.NumberLaws.{Held, held-none, held-more, held-end, held-full}
+use Rattle.header.proofs.NumberLaws.{ParametersHeld, held-none, held-more, held-end, held-full}
 use Rattle.header.proofs.reading.find_numbers.Statement.{statement}
 use Rattle.header.proofs.reading.find_numbers.Tie as tie
 
 abbrev Inv-loop : tie.InvT-loop
-Inv-loop t values₀ n₀ at₀ values n at = Held t values n at
+Inv-loop t values₀ n₀ at₀ values n at = ParametersHeld t values n at
 
 abbrev μ-loop : tie.MeasureT-loop
 μ-loop t values₀ n₀ at₀ values n at = maxParameters - n
@@ -48,7 +48,7 @@ loop-again c =
     let next = c .before .value .given .0 .1 .0 in
     let e : toZ w32 (ofZ w32 z) ≡ z = search needs in
     let h = held-more t (l .loop .values) (l .loop .n) (l .loop .at) (l .loop .inv) z next (omega arith) (sym (c .before .value .given .1) ∙ c .before .before .before .next-number .ensures) in
-    subst (λ (y : ℤ). Held t (set (l .loop .values) (l .loop .n) y) (l .loop .n + 1) next) (sym e) h
+    subst (λ (y : ℤ). ParametersHeld t (set (l .loop .values) (l .loop .n) y) (l .loop .n + 1) next) (sym e) h
 
 enum-told : tie.Need-enum-told Inv-loop μ-loop
 enum-told c = search needs

@@ -13,7 +13,7 @@ use Rattle.header.specs.declared.ParameterStep.the-variants.{All, TooFew
 use Rattle.header.specs.declared.Header.{Header}
 use Rattle.header.specs.declared.HeaderStep.{HeaderStep}
 use Rattle.header.specs.declared.HeaderStep.the-variants.{Good}
-use Rattle.header.specs.Header.{parameters, legal, header, refused, headerWith, headerOf}
+use Rattle.header.specs.Header.{parameters, legalParameters, header, refused, headerWith, headerOf}
 use Rattle.header.proofs.reading.header_of.Statement.{statement}
 use Rattle.header.proofs.reading.header_of.Tie as tie
 
@@ -22,10 +22,10 @@ module _ (h : SubCharacter) (zs : List ℤ) (s : ParameterStep) (e : s ≡ param
   unfolding headerOf
   with-is = ap (headerWith h) e
 
-  good : (p : Parameters) (x : Header) → s ≡ All p → legal p ≡ true → x ≡ header h p → Good x ≡ headerOf h zs
+  good : (p : Parameters) (x : Header) → s ≡ All p → legalParameters p ≡ true → x ≡ header h p → Good x ≡ headerOf h zs
   good p x q l r = ap Good r ∙ sym (ap (headerWith h) q ∙ simp l) ∙ with-is
 
-  bad : (p : Parameters) (x : HeaderStep) → s ≡ All p → legal p ≡ false → x ≡ refused badParameters → x ≡ headerOf h zs
+  bad : (p : Parameters) (x : HeaderStep) → s ≡ All p → legalParameters p ≡ false → x ≡ refused badParameters → x ≡ headerOf h zs
   bad p x q l r = r ∙ sym (ap (headerWith h) q ∙ simp l) ∙ with-is
 
   few : (x : HeaderStep) → s ≡ TooFew → x ≡ refused badParameters → x ≡ headerOf h zs

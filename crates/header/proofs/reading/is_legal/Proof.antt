@@ -4,7 +4,7 @@ use mathlib.Core.Path.{_≡_, refl}
 use borrow.Author.Needs.{needs}
 use mir.Syntax.{w32}
 use mir.Val.{toZ, ofZ}
-use Rattle.header.specs.Header.{legal}
+use Rattle.header.specs.Header.{legalParameters}
 use Rattle.header.proofs.ParameterLaws.{and-eq, within-eq}
 use Rattle.header.proofs.reading.is_legal.Statement.{statement}
 use Rattle.header.proofs.reading.is_legal.Tie as tie
@@ -55,7 +55,7 @@ both-requires-7 : tie.Need-both-requires-7
 both-requires-7 c κs = search needs
 
 returns : tie.Need-returns
-unfolding legal
+unfolding legalParameters
 returns c =
     let p = c .before .before .before .before .before .before .before .before .before .before .before .before .before .before .before .before .before .before .before .before .before .args .p in
     let e0 : toZ w32 (ofZ w32 (p .height)) ≡ p .height = search needs in

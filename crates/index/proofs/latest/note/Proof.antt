@@ -6,7 +6,7 @@ use native.Mathlib.Omega.{arith}
 use borrow.Author.Needs.{needs}
 use lib.IntN.{pos}
 use Rattle.index.specs.declared.latest.Small.the-variants.{Below}
-use Rattle.index.specs.Latest.{smallOf}
+use Rattle.index.specs.Latest.{smallCodes, smallOf}
 use Rattle.index.proofs.LatestLaws.{small-below, noted-here, noted-none}
 use Rattle.index.proofs.latest.note.Statement.{statement}
 use Rattle.index.proofs.latest.note.Tie as tie
@@ -14,7 +14,7 @@ use Rattle.index.proofs.latest.note.Tie as tie
 below : (c : tie.After-known-told) → smallOf (c .before .before .before .before .before .args .code .0) ≡ Below (c .before .c .given .0 .0)
 below c = sym (c .before .before .before .as-small .ensures) ∙ c .before .c .given .1
 
-small : (c : tie.After-known-told) → (c .before .before .before .before .before .args .code .0 ≡ pos (c .before .c .given .0 .0)) × (c .before .c .given .0 .0 < 256)
+small : (c : tie.After-known-told) → (c .before .before .before .before .before .args .code .0 ≡ pos (c .before .c .given .0 .0)) × (c .before .c .given .0 .0 < smallCodes)
 small c = small-below _ _ (below c)
 
 as-small-requires : tie.Need-as-small-requires

@@ -1,0 +1,57 @@
+/* What the parts of the command share. main.c has its words and options, io.c reads and writes, refusals.c says why something was refused. */
+#ifndef CLI_H
+#define CLI_H
+
+#include "wattleslate.h"
+#include <stdbool.h>
+
+/* Exit statuses. Where several are due the greatest is given. */
+enum status { GOOD = 0, REFUSED = 1, BAD_USE = 2, BAD_FILE = 3 };
+
+/* A file that was read, and its name for messages. */
+struct file {
+    const char *name;
+    const uint8_t *bytes;
+    size_t length;
+};
+
+/* A text to draw: a name of the command line, or the line of standard input with that number, counted from 1 (0: a name). */
+struct text {
+    size_t line;
+    const uint8_t *bytes;
+    size_t length;
+};
+
+/* Whether there is one more text. */
+enum step { NEXT, END, FAILED };
+
+/* fonts/console.flf, put into a C file by the Makefile. */
+extern const uint8_t built_in_font[];
+extern const size_t built_in_font_length;
+
+/* Reads a file into an area. Of a file that does not fit, as much as fits is read: who lends a byte more than the library takes lets it refuse. */
+enum status load(struct file *file, const char *name, uint8_t *area, size_t room);
+
+/* The next line of standard input, which lasts until the next call. */
+enum step next_line(struct text *text);
+
+/* Writes to standard output, at once. After a failure, which is told, nothing more is written. */
+enum status put(const uint8_t *bytes, size_t length);
+enum status put_string(const char *string);
+
+/* Ends what was written to standard output: an error that only shows now is told. */
+enum status close_output(void);
+
+/* Shows bytes in a message on standard error: control bytes as \xNN, and at most `most` of them. What cannot be said there is lost; the exit
+ * status stands. */
+void show(const uint8_t *bytes, size_t length, size_t most);
+void show_string(const char *string);
+
+/* Shows a text by its first 60 bytes, or by its line of standard input. */
+void show_text(const struct text *text);
+
+/* Says why a file or a text was refused, and gives the status REFUSED. */
+enum status file_refused(const struct file *file, uint64_t answer);
+enum status text_refused(const struct text *text, uint64_t answer);
+
+#endif

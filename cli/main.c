@@ -1,0 +1,305 @@
+/* The command wattleslate: big letters from a FIGfont. It loads files, calls the library and prints; what is drawn the library decides. */
+#include "cli.h"
+#include <signal.h>
+#include <stdio.h>
+#include <string.h>
+#include <strings.h>
+
+#define VERSION "1.0"
+
+/* The words, each a bit, so that an option can name those that it belongs to. */
+enum { DRAW = 1, CHECK = 2, EVERY_WORD = ~0 };
+
+/* The options. What was given for each stands in a call: the value, or the option itself where it takes none; NULL if it was not given. */
+enum { FONT, CONTROL, HELP, SHOW_VERSION, OPTIONS_COUNT };
+
+/* What the command line asks for. */
+struct call {
+    const char *given[OPTIONS_COUNT];
+    char **operands;
+    size_t count;
+};
+
+static enum status draw(const struct call *call);
+static enum status check(const struct call *call);
+
+struct word {
+    const char *name;
+    int bit;
+    size_t least;      /* operands that it needs */
+    const char *wants; /* what they are */
+    enum status (*run)(const struct call *call);
+    const char *help;
+};
+
+/* The first word is meant where none is given. */
+static const struct word WORDS[] = {
+    {"draw", DRAW, 0, "nothing", draw,
+     "  wattleslate [draw] [-f FONT] [-c CONTROL] [NAME...]\n"
+     "      draws each NAME, or without a NAME each line of standard input\n"},
+    {"check", CHECK, 1, "a FONT or a CONTROL", check,
+     "  wattleslate check FONT|CONTROL...\n"
+     "      reads fonts and control files, and says what is wrong with them\n"},
+};
+
+struct option {
+    const char *name;
+    const char *value; /* NULL: it takes none */
+    int words;
+    size_t place; /* in a call's given */
+    const char *help;
+};
+
+static const struct option OPTIONS[] = {
+    {"-f", "FONT", DRAW, FONT, "  -f FONT     draw with this FIGfont, and not with the built-in one\n"},
+    {"-c", "CONTROL", DRAW, CONTROL, "  -c CONTROL  map the characters by this control file first\n"},
+    {"-h", NULL, EVERY_WORD, HELP, ""},
+    {"--help", NULL, EVERY_WORD, HELP, "  --help, -h  print this help\n"},
+    {"--version", NULL, EVERY_WORD, SHOW_VERSION, "  --version   print the version\n"},
+};
+
+static const char MORE_HELP[] =
+    "  --          what follows is no option\n"
+    "\n"
+    "Each byte of a NAME is one character, 128 to 255 by ISO 8859-1. A first NAME that is a word stands behind `draw`.\n"
+    "Exit status: 0; 1 something was refused; 2 bad use; 3 a file cannot be read or written.\n";
+
+#define COUNT(table) (sizeof(table) / sizeof *(table))
+
+static enum status worse(enum status one, enum status other) {
+    return one > other ? one : other;
+}
+
+/* The files that drawing takes. */
+struct files {
+    struct file font, control;
+    uint32_t height;
+};
+
+/* Loads the font and the control file that were asked for and has the library read them. What is wrong with either is said once, not for each
+ * name. */
+static enum status take_files(const struct call *call, struct files *files) {
+    static uint8_t font_area[WATTLESLATE_MAX_FONT + 1], control_area[WATTLESLATE_MAX_CONTROL + 1];
+    enum status status = GOOD;
+    files->font = (struct file){"built-in font", built_in_font, built_in_font_length};
+    files->control = (struct file){"no control file", control_area, 0};
+    if (call->given[FONT] != NULL) {
+        status = load(&files->font, call->given[FONT], font_area, sizeof font_area);
+    }
+    if (call->given[CONTROL] != NULL) {
+        status = worse(status, load(&files->control, call->given[CONTROL], control_area, sizeof control_area));
+    }
+    if (status != GOOD) {
+        return status;
+    }
+    uint64_t answer = wattleslate_check_font(files->font.bytes, files->font.length);
+    files->height = wattleslate_height(answer);
+    if (wattleslate_number(answer) != WATTLESLATE_NOT_REFUSED) {
+        status = file_refused(&files->font, answer);
+    }
+    answer = wattleslate_check_control(files->control.bytes, files->control.length);
+    if (wattleslate_number(answer) != WATTLESLATE_NOT_REFUSED) {
+        status = file_refused(&files->control, answer);
+    }
+    return status;
+}
+
+static enum status draw_text(const struct files *files, const struct text *text) {
+    static uint8_t scratch[WATTLESLATE_SCRATCH], out[WATTLESLATE_MAX_DRAWN];
+    uint64_t answer = wattleslate_draw(files->font.bytes, files->font.length, files->control.bytes, files->control.length, text->bytes,
+                                       text->length, scratch, sizeof scratch, out, sizeof out);
+    if (wattleslate_number(answer) != WATTLESLATE_NOT_REFUSED) {
+        return text_refused(text, answer);
+    }
+    return put(out, WATTLESLATE_DRAWN(files->height, wattleslate_width(answer)));
+}
+
+/* The text with that number, counted from 0: of the operands, or without one of the lines of standard input. */
+static enum step next_text(const struct call *call, size_t number, struct text *text) {
+    if (call->count == 0) {
+        return next_line(text);
+    }
+    if (number == call->count) {
+        return END;
+    }
+    *text = (struct text){0, (const uint8_t *)call->operands[number], strlen(call->operands[number])};
+    return NEXT;
+}
+
+static enum status draw(const struct call *call) {
+    struct files files;
+    struct text text;
+    enum step step = END;
+    enum status status = take_files(call, &files);
+    if (status != GOOD) {
+        return status;
+    }
+    for (size_t number = 0; status != BAD_FILE && (step = next_text(call, number, &text)) == NEXT; number++) {
+        status = worse(status, draw_text(&files, &text));
+    }
+    return step == FAILED ? BAD_FILE : status;
+}
+
+/* The first line tells a control file, else the name's end does. All others are fonts: one without its first word is refused for that. */
+static bool is_control(const struct file *file) {
+    size_t length = strlen(file->name);
+    if (file->length >= 5 && memcmp(file->bytes, "flf2a", 5) == 0) {
+        return false;
+    }
+    if (file->length >= 5 && memcmp(file->bytes, "flc2a", 5) == 0) {
+        return true;
+    }
+    return length >= 4 && strcasecmp(file->name + length - 4, ".flc") == 0;
+}
+
+static enum status check_file(const char *name) {
+    static uint8_t area[WATTLESLATE_MAX_FONT + 1];
+    struct file file;
+    enum status status = load(&file, name, area, sizeof area);
+    if (status != GOOD) {
+        return status;
+    }
+    bool control = is_control(&file);
+    uint64_t answer = (control ? wattleslate_check_control : wattleslate_check_font)(file.bytes, file.length);
+    if (wattleslate_number(answer) != WATTLESLATE_NOT_REFUSED) {
+        return file_refused(&file, answer);
+    }
+    show_string(name);
+    if (control) {
+        fprintf(stderr, ": control file, commands %u, stages %u\n", (unsigned)wattleslate_commands(answer), (unsigned)wattleslate_stages(answer));
+    } else {
+        fprintf(stderr, ": font, height %u, characters %u\n", (unsigned)wattleslate_height(answer), (unsigned)wattleslate_characters(answer));
+    }
+    return GOOD;
+}
+
+static enum status check(const struct call *call) {
+    enum status status = GOOD;
+    for (size_t i = 0; i < call->count; i++) {
+        status = worse(status, check_file(call->operands[i]));
+    }
+    return status;
+}
+
+static enum status help(void) {
+    enum status status = put_string("wattleslate: big letters from a FIGfont\n\n");
+    for (size_t i = 0; i < COUNT(WORDS); i++) {
+        status = worse(status, put_string(WORDS[i].help));
+    }
+    status = worse(status, put_string("\n"));
+    for (size_t i = 0; i < COUNT(OPTIONS); i++) {
+        status = worse(status, put_string(OPTIONS[i].help));
+    }
+    return worse(status, put_string(MORE_HELP));
+}
+
+/* Says what is wrong with the command line, in three parts, each of which may be a word of it. */
+static enum status bad_use(const char *first, const char *second, const char *third) {
+    fputs("wattleslate: ", stderr);
+    show_string(first);
+    show_string(second);
+    show_string(third);
+    fputs("; wattleslate --help says how it is called\n", stderr);
+    return BAD_USE;
+}
+
+/* The option that an argument begins with, or NULL; and its value where that is a part of the argument: -fFONT, --name=VALUE. */
+static const struct option *option_of(const char *argument, const char **value) {
+    *value = NULL;
+    for (size_t i = 0; i < COUNT(OPTIONS); i++) {
+        const struct option *option = &OPTIONS[i];
+        size_t length = strlen(option->name);
+        bool is_long = option->name[1] == '-';
+        if (strncmp(argument, option->name, length) != 0) {
+            continue;
+        }
+        if (argument[length] == '\0') {
+            return option;
+        }
+        if (option->value != NULL && (!is_long || argument[length] == '=')) {
+            *value = argument + length + (is_long ? 1 : 0);
+            return option;
+        }
+    }
+    return NULL;
+}
+
+/* Takes the option that stands at the first of some arguments, and counts how many of them it has used. */
+static enum status take_option(const struct word *word, char **arguments, struct call *call, size_t *used) {
+    const char *value;
+    const struct option *option = option_of(arguments[0], &value);
+    *used = 1;
+    if (option == NULL) {
+        return bad_use("there is no option ", arguments[0], "");
+    }
+    if ((option->words & word->bit) == 0) {
+        return bad_use(word->name, " takes no option ", option->name);
+    }
+    if (option->value == NULL) {
+        value = option->name;
+    } else if (value == NULL) {
+        value = arguments[1];
+        *used = 2;
+    }
+    if (value == NULL) {
+        return bad_use(option->name, " wants a ", option->value);
+    }
+    call->given[option->place] = value;
+    return GOOD;
+}
+
+/* Parts the arguments of a word, which end with NULL, into options and operands. An option may stand behind an operand; behind -- all are operands. */
+static enum status take_arguments(const struct word *word, char **arguments, struct call *call) {
+    bool only_operands = false;
+    size_t used = 1;
+    *call = (struct call){{NULL}, arguments, 0};
+    for (size_t i = 0; arguments[i] != NULL; i += used) {
+        used = 1;
+        if (only_operands || arguments[i][0] != '-' || arguments[i][1] == '\0') {
+            call->operands[call->count++] = arguments[i];
+        } else if (strcmp(arguments[i], "--") == 0) {
+            only_operands = true;
+        } else {
+            enum status status = take_option(word, arguments + i, call, &used);
+            if (status != GOOD) {
+                return status;
+            }
+        }
+    }
+    return GOOD;
+}
+
+static enum status run(char **arguments) {
+    const struct word *word = &WORDS[0];
+    struct call call;
+    for (size_t i = 0; i < COUNT(WORDS) && arguments[0] != NULL; i++) {
+        if (strcmp(arguments[0], WORDS[i].name) == 0) {
+            word = &WORDS[i];
+            arguments++;
+            break;
+        }
+    }
+    enum status status = take_arguments(word, arguments, &call);
+    if (status != GOOD) {
+        return status;
+    }
+    if (call.given[HELP] != NULL) {
+        return help();
+    }
+    if (call.given[SHOW_VERSION] != NULL) {
+        return put_string("wattleslate " VERSION "\n");
+    }
+    if (call.count < word->least) {
+        return bad_use(word->name, " wants ", word->wants);
+    }
+    return word->run(&call);
+}
+
+int main(int count, char **arguments) {
+    /* A message is one write, a line. */
+    (void)setvbuf(stderr, NULL, _IOLBF, BUFSIZ);
+    /* A pipe that nobody reads is told as any other output that cannot be written. */
+    (void)signal(SIGPIPE, SIG_IGN);
+    enum status status = run(count > 0 ? arguments + 1 : arguments);
+    return (int)worse(status, close_output());
+}

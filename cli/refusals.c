@@ -1,0 +1,126 @@
+/* Refusals as sentences: the one table of them, and what can be said of the place in a file. */
+#include "cli.h"
+#include <stdio.h>
+
+/* What a refusal number says, and whether it has a place in a file. */
+struct refusal {
+    bool placed;
+    const char *sentence;
+};
+
+/* clang-format off */
+static const struct refusal REFUSALS[] = {
+    [WATTLESLATE_FONT_TOO_LONG]       = {false, "the font is longer than 65,536 bytes"},
+    [WATTLESLATE_NO_SIGNATURE]        = {true,  "the first line does not begin with flf2a"},
+    [WATTLESLATE_BAD_HARDBLANK]       = {true,  "the hardblank is absent, or is a blank, CR, LF or NUL"},
+    [WATTLESLATE_BAD_PARAMETERS]      = {true,  "no blank or tab after the hardblank, under five numbers, or a value out of range"},
+    [WATTLESLATE_MISSING_LINE]        = {true,  "the font ends here, before a line that it needs"},
+    [WATTLESLATE_BAD_ROW]             = {true,  "a bad row"}, /* row_fault says more */
+    [WATTLESLATE_BAD_CODE_TAG]        = {true,  "a bad code tag"},
+    [WATTLESLATE_TOO_MANY_CHARACTERS] = {true,  "a 513th character"},
+    [WATTLESLATE_AREA_TOO_SMALL]      = {false, "an area is too small"},
+    [WATTLESLATE_CONTROL_TOO_LONG]    = {false, "the control file is longer than 16,384 bytes"},
+    [WATTLESLATE_NOT_A_COMMAND]       = {true,  "not a command"},
+    [WATTLESLATE_BAD_RANGES]          = {true,  "the two ranges differ in size, or one has its first above its last"},
+    [WATTLESLATE_EXTENDED_COMMAND]    = {true,  "a command h, j, b, u or g, which is not taken"},
+    [WATTLESLATE_TOO_MANY_COMMANDS]   = {true,  "a 257th command or a 65th stage"},
+    [WATTLESLATE_TEXT_TOO_LONG]       = {false, "the text is longer than 1,024 bytes"},
+    [WATTLESLATE_LINE_TOO_WIDE]       = {false, "the drawn line is wider than 1,000 columns"},
+    [WATTLESLATE_BAD_SHAPE]           = {false, "a join of bad shape"},
+};
+/* clang-format on */
+
+static struct refusal refusal_of(uint64_t answer) {
+    size_t number = (size_t)wattleslate_number(answer);
+    bool known = number < sizeof REFUSALS / sizeof *REFUSALS && REFUSALS[number].sentence != NULL;
+    return known ? REFUSALS[number] : (struct refusal){true, "refused"};
+}
+
+/* The end of the line that starts at a place: an LF, a CR, or the end of the file. */
+static size_t line_end(const struct file *file, size_t at) {
+    while (at < file->length && file->bytes[at] != '\n' && file->bytes[at] != '\r') {
+        at++;
+    }
+    return at;
+}
+
+/* The start of the line behind: LF, CR and CR LF each end one. */
+static size_t line_after(const struct file *file, size_t at) {
+    size_t end = line_end(file, at);
+    bool both = end + 1 < file->length && file->bytes[end] == '\r' && file->bytes[end + 1] == '\n';
+    return end + (both ? 2 : 1);
+}
+
+/* The number of the line that a place is in, counted from 1; of the last line for the place behind it, and 0 for an empty file. */
+static size_t line_of(const struct file *file, size_t place) {
+    size_t line = 0;
+    for (size_t at = 0; at < file->length && at <= place; at = line_after(file, at)) {
+        line++;
+    }
+    return line;
+}
+
+/* The third number of a header that was accepted: Height, Baseline and Max_Length are digits between blanks and tabs, behind the hardblank. */
+static size_t max_length(const struct file *font) {
+    size_t at = 6, value = 0;
+    for (int word = 0; word < 3; word++) {
+        while (at < font->length && (font->bytes[at] == ' ' || font->bytes[at] == '\t')) {
+            at++;
+        }
+        for (value = 0; at < font->length && font->bytes[at] >= '0' && font->bytes[at] <= '9'; at++) {
+            value = value * 10 + (size_t)(font->bytes[at] - '0');
+        }
+    }
+    return value;
+}
+
+/* Which of the four reasons of refusal 6 the line at a place gives, with the column of the first byte at fault where there is one. The last reason
+ * is the one that is left when none of the others is there. The header of the font was accepted. */
+static const char *row_fault(const struct file *font, size_t start, size_t *column) {
+    size_t end = line_end(font, start), most = max_length(font), behind = end;
+    if (end == start) {
+        return "an empty line where a row is due";
+    }
+    if (end - start > most) {
+        *column = most + 1;
+        return "a row is longer than Max_Length with its endmarks";
+    }
+    while (behind > start && font->bytes[behind - 1] == font->bytes[end - 1]) {
+        behind--;
+    }
+    for (size_t at = start; at < behind; at++) {
+        if (font->bytes[at] < 32 && font->bytes[at] != font->bytes[5]) {
+            *column = at - start + 1;
+            return "a row holds a control byte that is not the hardblank";
+        }
+    }
+    return "a row differs in width from the first row of its character";
+}
+
+enum status file_refused(const struct file *file, uint64_t answer) {
+    struct refusal refusal = refusal_of(answer);
+    size_t place = (size_t)wattleslate_place(answer), column = 0;
+    size_t line = refusal.placed ? line_of(file, place) : 0;
+    if (wattleslate_number(answer) == WATTLESLATE_BAD_ROW) {
+        refusal.sentence = row_fault(file, place, &column);
+    }
+    show_string(file->name);
+    if (line > 0) {
+        fprintf(stderr, ":%zu", line);
+    }
+    if (column > 0) {
+        fprintf(stderr, ":%zu", column);
+    }
+    fprintf(stderr, ": %s (refusal %d", refusal.sentence, (int)wattleslate_number(answer));
+    if (refusal.placed) {
+        fprintf(stderr, " at byte %zu", place);
+    }
+    fputs(")\n", stderr);
+    return REFUSED;
+}
+
+enum status text_refused(const struct text *text, uint64_t answer) {
+    show_text(text);
+    fprintf(stderr, ": %s (refusal %d)\n", refusal_of(answer).sentence, (int)wattleslate_number(answer));
+    return REFUSED;
+}

@@ -1,0 +1,151 @@
+-- Each answer of a drawing is given exactly when document 01 says so: the answer is one of those named here, and what is named for an answer gives it.
+-- Then the bytes of the output.
+-- Assumes nothing.
+use mathlib.Core.Path.{_≡_, refl, sym, ap, _∙_, subst}
+use mathlib.Core.Bool.{Bool, true, false}
+use mathlib.Core.List.{List}
+use Prim.Native.Nat.{ℕ, _+_, _*_, _≤_, _<_}
+use native.Mathlib.Omega.{arith}
+use lib.Dec.{ltb}
+use lib.ListN.{length, getD}
+use borrow.Author.Tests.{ltb-true, ltb-false}
+use Rattle.ground.specs.Area.{padded}
+use Rattle.ground.specs.Text.{byte}
+use Rattle.ground.specs.Limits.{maxLineWidth, maxText, minScratch}
+use Rattle.ground.specs.Refusals.{refusal, areaTooSmall, textTooLong, lineTooWide}
+use Rattle.ground.specs.declared.refusals.Refusal.{Refusal}
+use Rattle.ground.proofs.Areas.{padded-at}
+use Rattle.join.specs.Join.{Block}
+use Rattle.join.proofs.Rows.{row-room}
+use Rattle.figure.specs.Line.{blanked, shown, outputOf, outputBytes, drawnOnly}
+use Rattle.figure.proofs.Showing.{too-wide, no-room, drawn, shown-byte, shown-lf, length-shown}
+use Rattle.header.specs.declared.Header.{Header}
+use Rattle.chars.specs.declared.Entry.{Entry}
+use Rattle.font.specs.Font as font
+use Rattle.flc.specs.declared.Command.{Command}
+use Rattle.flc.specs.Control as flc
+use Rattle.figure.specs.declared.DrawAnswer.{DrawAnswer}
+use Rattle.figure.specs.declared.DrawAnswer.the-variants.{Drawn, Refused}
+use Rattle.drawing.specs.Drawing.{modeOf, fontLine, Lined, lined, unlined, linedBy, linedOf, drawLined, linedAnswer, bytesOf}
+use Rattle.drawing.proofs.OutputLaws.{text-long, text-lined}
+use Rattle.drawing.proofs.SizeLaws.{lined-small, lined-enough}
+
+module _ (size : ℕ) (s control text : List ℕ) (room : ℕ) where
+  -- Neither 9 for the scratch nor a refusal of a file.
+  pub record FilesRead : Type 0 where
+    pub scratch-enough : minScratch ≤ size
+    pub header : Header
+    pub characters : List Entry
+    pub font-read : font.reading s ≡ font.says header characters
+    pub commands : List Command
+    pub stages : ℕ
+    pub control-read : flc.control control ≡ flc.reads commands stages
+
+  -- The line of the text by these files.
+  abbrev pub lineBy : FilesRead → Block
+  lineBy x = fontLine s (x .header) (x .characters) (x .commands) (x .stages) text
+
+  -- The bytes that it takes.
+  abbrev pub bytesBy : FilesRead → ℕ
+  bytesBy x = x .header .height * (lineBy x .width + 1)
+
+  -- "Drawing: 9 for all working areas, the font's, the control file's, 15, 16, then 9 for the output"; otherwise the width.
+  pub data DrawsTo : DrawAnswer → Type 0 where
+    scratch-small : size < minScratch → DrawsTo (Refused (refusal areaTooSmall 0))
+    font-refused : minScratch ≤ size → (r : Refusal) → font.reading s ≡ font.refuses r → DrawsTo (Refused r)
+    control-refused : minScratch ≤ size → (h : Header) (es : List Entry) → font.reading s ≡ font.says h es → (r : Refusal) → flc.control control ≡ flc.refuses r → DrawsTo (Refused r)
+    text-too-long : FilesRead → maxText < length text → DrawsTo (Refused (refusal textTooLong 0))
+    line-too-wide : (x : FilesRead) → length text ≤ maxText → maxLineWidth < lineBy x .width → DrawsTo (Refused (refusal lineTooWide 0))
+    output-small : (x : FilesRead) → length text ≤ maxText → lineBy x .width ≤ maxLineWidth → room < bytesBy x → DrawsTo (Refused (refusal areaTooSmall 0))
+    draws : (x : FilesRead) → length text ≤ maxText → lineBy x .width ≤ maxLineWidth → bytesBy x ≤ room → DrawsTo (Drawn (lineBy x .width))
+
+  abbrev pub answer : DrawAnswer
+  answer = linedAnswer (drawLined size s control text) room
+
+  by-line : (l : Lined) → drawLined size s control text ≡ l → answer ≡ linedAnswer l room
+  by-line l e = ap (λ (x : Lined). linedAnswer x room) e
+
+  refused-by : (r : Refusal) → drawLined size s control text ≡ unlined r → answer ≡ Refused r
+  unfolding linedAnswer
+  refused-by r e = by-line (unlined r) e
+
+  is-lined : (x : FilesRead) → length text ≤ maxText → drawLined size s control text ≡ lined (modeOf (x .header)) (x .header .height) (lineBy x)
+  is-lined x t =
+      lined-enough size s control text (x .scratch-enough) ∙
+      text-lined s control text (x .header) (x .characters) (x .commands) (x .stages) (x .font-read) (x .control-read) t
+
+  put-by : (x : FilesRead) → length text ≤ maxText → answer ≡ outputOf (x .header .height) (lineBy x) room
+  unfolding linedAnswer
+  put-by x t = by-line _ (is-lined x t)
+
+  -- Each of these gives its answer,
+  pub gives : (a : DrawAnswer) → DrawsTo a → answer ≡ a
+  unfolding linedOf
+  gives _ (scratch-small u) = refused-by _ (lined-small size s control text u)
+  gives _ (font-refused u r f) = refused-by r (lined-enough size s control text u ∙ ap (λ (x : font.FontReading). linedBy s x (flc.control control) text) f)
+  gives _ (control-refused u h es f r c) =
+      refused-by r (lined-enough size s control text u ∙ ap (λ (x : font.FontReading). linedBy s x (flc.control control) text) f ∙ ap (λ (x : flc.ControlReading). linedBy s (font.says h es) x text) c)
+  gives _ (text-too-long x t) =
+      refused-by _ (lined-enough size s control text (x .scratch-enough) ∙ text-long s control text (x .header) (x .characters) (x .commands) (x .stages) (x .font-read) (x .control-read) t)
+  gives _ (line-too-wide x t w) = put-by x t ∙ sym (too-wide 0 (x .header .height) (lineBy x) room w)
+  gives _ (output-small x t w m) = put-by x t ∙ sym (no-room 0 (x .header .height) (lineBy x) room w m)
+  gives _ (draws x t w m) = put-by x t ∙ sym (drawn 0 (x .header .height) (lineBy x) room w m)
+
+  -- and the answer is one of them.
+  pub one-of : DrawsTo answer
+  one-of = by-size (ltb size minScratch) refl
+    where
+      as-told : (a : DrawAnswer) → DrawsTo a → DrawsTo answer
+      as-told a d = subst DrawsTo (sym (gives a d)) d
+
+      by-room : (x : FilesRead) → length text ≤ maxText → lineBy x .width ≤ maxLineWidth → (b : Bool) → ltb room (bytesBy x) ≡ b → DrawsTo answer
+      by-room x t w true e = as-told _ (output-small x t w (ltb-true room (bytesBy x) e))
+      by-room x t w false e = as-told _ (draws x t w (ltb-false room (bytesBy x) e))
+
+      by-width : (x : FilesRead) → length text ≤ maxText → (b : Bool) → ltb maxLineWidth (lineBy x .width) ≡ b → DrawsTo answer
+      by-width x t true e = as-told _ (line-too-wide x t (ltb-true maxLineWidth (lineBy x .width) e))
+      by-width x t false e = by-room x t (ltb-false maxLineWidth (lineBy x .width) e) (ltb room (bytesBy x)) refl
+
+      by-text : FilesRead → (b : Bool) → ltb maxText (length text) ≡ b → DrawsTo answer
+      by-text x true e = as-told _ (text-too-long x (ltb-true maxText (length text) e))
+      by-text x false e = by-width x (ltb-false maxText (length text) e) (ltb maxLineWidth (lineBy x .width)) refl
+
+      by-control : minScratch ≤ size → (h : Header) (es : List Entry) → font.reading s ≡ font.says h es → (x : flc.ControlReading) → flc.control control ≡ x → DrawsTo answer
+      by-control u h es f (flc.refuses r) c = as-told _ (control-refused u h es f r c)
+      by-control u h es f (flc.reads cs k) c =
+          by-text (record { scratch-enough = u; header = h; characters = es; font-read = f; commands = cs; stages = k; control-read = c }) (ltb maxText (length text)) refl
+
+      by-font : minScratch ≤ size → (x : font.FontReading) → font.reading s ≡ x → DrawsTo answer
+      by-font u (font.refuses r) f = as-told _ (font-refused u r f)
+      by-font u (font.says h es) f = by-control u h es f (flc.control control) refl
+
+      by-size : (b : Bool) → ltb size minScratch ≡ b → DrawsTo answer
+      by-size true e = as-told _ (scratch-small (ltb-true size minScratch e))
+      by-size false e = by-font (ltb-false size minScratch e) (font.reading s) refl
+
+  -- The output of a text that is drawn.
+  module _ (x : FilesRead) (t : length text ≤ maxText) (w : lineBy x .width ≤ maxLineWidth) (m : bytesBy x ≤ room) where
+    abbrev hardblank : ℕ
+    hardblank = x .header .hardblank .0
+
+    abbrev output : List ℕ
+    output = padded (bytesOf (drawLined size s control text) room) room
+
+    bytes-are : bytesOf (drawLined size s control text) room ≡ shown hardblank (x .header .height) (lineBy x)
+    unfolding bytesOf outputBytes modeOf
+    bytes-are =
+        ap (λ (l : Lined). bytesOf l room) (is-lined x t) ∙
+        ap (λ (a : DrawAnswer). drawnOnly a (shown hardblank (x .header .height) (lineBy x))) (sym (drawn 0 (x .header .height) (lineBy x) room w m))
+
+    at-place : (r k : ℕ) → r < x .header .height → k < lineBy x .width + 1 → getD output (r * (lineBy x .width + 1) + k) 0 ≡ getD (shown hardblank (x .header .height) (lineBy x)) (r * (lineBy x .width + 1) + k) 0
+    at-place r k u v =
+        ap (λ (b : List ℕ). getD (padded b room) (r * (lineBy x .width + 1) + k) 0) bytes-are ∙
+        padded-at (shown hardblank (x .header .height) (lineBy x)) room _ (omega (arith, row-room r (x .header .height) (lineBy x .width + 1) u, length-shown hardblank (x .header .height) (lineBy x)))
+
+    -- "The output is each row with hardblanks as blanks,
+    pub output-byte : (r k : ℕ) → r < x .header .height → k < lineBy x .width → getD output (r * (lineBy x .width + 1) + k) 0 ≡ blanked hardblank (lineBy x .cells r k)
+    output-byte r k u v = at-place r k u (omega arith) ∙ shown-byte hardblank (x .header .height) (lineBy x) r k u v
+
+    -- then LF."
+    pub output-lf : (r : ℕ) → r < x .header .height → getD output (r * (lineBy x .width + 1) + lineBy x .width) 0 ≡ byte "\n"
+    output-lf r u = at-place r (lineBy x .width) u (omega arith) ∙ shown-lf hardblank (x .header .height) (lineBy x) r u

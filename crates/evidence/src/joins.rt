@@ -1,0 +1,122 @@
+// What is printed about a join: the answer, and all of the area.
+use crate::asking::behind;
+use crate::asking::row_of;
+use crate::asking::word_of;
+use crate::drawings::MOST_ROOM;
+use crate::drawings::past_byte;
+use crate::drawings::show_output;
+use crate::drawings::used_output;
+use crate::printing::named;
+use crate::printing::refused;
+use ground::limits;
+use subchars::Direction;
+use subchars::Layout;
+use subchars::Smushing;
+use subchars::SubCharacter;
+use wattleslate::JoinAnswer;
+ghost use Prim.Native.Nat.{_≤_};
+
+// How two blocks are joined.
+struct Manner {
+    layout: Layout,
+    direction: Direction,
+    hardblank: SubCharacter,
+}
+
+// The widths of the two blocks, and their height.
+struct Shape {
+    height: usize,
+    line: usize,
+    character: usize,
+}
+
+// The layout that a word names: a Full_Layout; or from 32,768 on, controlled smushing by the rules in the number's last eight bits.
+fn layout_of(word: &[u8]) -> Layout {
+    let n = row_of(word);
+    if limits::MAX_FULL_LAYOUT < n {
+        let rules = (n % 256) as u8;
+        return Layout::Smushing(Smushing::Controlled(rules));
+    }
+    Layout::from_full(n)
+}
+
+fn hardblank_of(word: &[u8]) -> SubCharacter {
+    let n = row_of(word) % 256;
+    SubCharacter(n as u8)
+}
+
+fn show_answer(answer: JoinAnswer) {
+    match answer {
+        JoinAnswer::Joined { overlap, width } => {
+            named(b"overlap ", overlap);
+            named(b", width ", width);
+        }
+        JoinAnswer::Refused(r) => refused(r.number, r.place),
+    }
+}
+
+// Joins, and shows what came of it.
+fn join_in(m: Manner, s: Shape, line: &[u8], character: &[u8], out: &mut [u8]) {
+    let layout = m.layout;
+    let direction = m.direction;
+    let hardblank = m.hardblank;
+    show_answer(wattleslate::join(
+        line,
+        s.line,
+        character,
+        s.character,
+        s.height,
+        hardblank,
+        layout,
+        direction,
+        out,
+    ));
+    show_output(out);
+}
+
+// Joins in an area of some size.
+fn join(m: Manner, s: Shape, line: &[u8], character: &[u8], room: usize)
+    requires { ⌜ room ≤ 1100 ⌝ }
+{
+    let mut out = used_output();
+    join_in(m, s, line, character, &mut out[..room]);
+}
+
+// The blocks of a text: the line's so many bytes, a byte between, and the character's up to the end.
+fn join_blocks(m: Manner, s: Shape, length: usize, room: usize, t: &[u8])
+    requires { ⌜ room ≤ 1100 ⌝ }
+{
+    if length <= t.len() {
+        join(m, s, &t[..length], past_byte(&t[length..]), room);
+    }
+}
+
+// The words say how the blocks are joined (layout, direction, hardblank), their shape (height, the line's width, the character's width), the area's
+// size and the length of the line's block; the blocks follow.
+pub(crate) fn show_join(words: &[u8]) {
+    let second = behind(words);
+    let third = behind(second);
+    let fourth = behind(third);
+    let fifth = behind(fourth);
+    let sixth = behind(fifth);
+    let seventh = behind(sixth);
+    let eighth = behind(seventh);
+    let m = Manner {
+        layout: layout_of(word_of(words)),
+        direction: Direction::from_print(row_of(word_of(second))),
+        hardblank: hardblank_of(word_of(third)),
+    };
+    let s = Shape {
+        height: row_of(word_of(fourth)),
+        line: row_of(word_of(fifth)),
+        character: row_of(word_of(sixth)),
+    };
+    let room = ground::smaller(row_of(word_of(seventh)), MOST_ROOM);
+    join_blocks(
+        m,
+        s,
+        row_of(word_of(eighth)),
+        room,
+        past_byte(behind(eighth)),
+    );
+}

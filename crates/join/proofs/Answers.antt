@@ -1,0 +1,193 @@
+-- Each answer of a join is given exactly when document 01 says so: the answer is one of those named here, and what is named for an answer gives it.
+-- Assumes nothing.
+use mathlib.Core.Path.{_≡_, refl, sym, ap, _∙_, subst}
+use mathlib.Core.Bool.{Bool, true, false, not, _&&_, true≢false}
+use mathlib.Core.Logic.{_⊎_, inl, inr, ⊎-elim}
+use mathlib.Core.List.{List}
+use Prim.Native.Nat.{ℕ, _*_, _≤_, _<_}
+use native.Mathlib.Omega.{arith}
+use native.Mathlib.Decide.{decLt}
+use lib.Dec.{ltb, leb, eqb}
+use lib.ListN.{length}
+use borrow.Author.Tests.{lt-ltb, le-ltb, ltb-true, ltb-false, leb-true, lt-leb, leb-false, ne-eqb, eqb-true, eqb-false}
+use Rattle.ground.specs.Limits.{maxHeight, maxLineWidth, maxCharacterWidth, maxRules}
+use Rattle.ground.specs.Refusals.{areaTooSmall, lineTooWide, badShape}
+use Rattle.ground.proofs.Tests.{and-left, and-right, and-left-false, and-right-false, never-both}
+use Rattle.subchars.specs.declared.Layout.{Layout}
+use Rattle.subchars.specs.declared.Layout.the-variants.{FullWidth, Fitting, Smushing}
+use Rattle.subchars.specs.declared.Smushing.{Smushing as Kind}
+use Rattle.subchars.specs.declared.Smushing.the-variants.{Universal, Controlled}
+use Rattle.subchars.specs.declared.Mode.{Mode}
+use Rattle.subchars.specs.Pair.{legalHardblank}
+use Rattle.join.specs.Join.{Block, exactBlock, leftOf, rightOf, overlap, besides}
+use Rattle.join.specs.Shape.{goodKind, goodLayout, goodBlock, goodShape}
+use Rattle.join.specs.declared.JoinAnswer.the-variants.{Joined}
+use Rattle.join.specs.JoinCall.{JoinTold, joinTells, refusing, toldOf, joinTold}
+use Rattle.join.proofs.Demand.{overlap-narrower}
+
+-- which of two tests fails where both do not hold
+and-none : (a b : Bool) → (a && b) ≡ false → (a ≡ false) ⊎ (b ≡ false)
+and-none true b e = inr e
+and-none false b e = inl refl
+
+-- 17: "height outside 1 to 32, line width over 1,000, character width over 199, rules outside 1 to 63 in controlled mode, a hardblank that 3
+-- refuses, or blocks not exactly height times width long".
+module _ (y : Mode) (h n : ℕ) (line : List ℕ) (m : ℕ) (character : List ℕ) where
+  pub data BadShape : Type 0 where
+    height-under : h < 1 → BadShape
+    height-over : maxHeight < h → BadShape
+    line-over : maxLineWidth < n → BadShape
+    character-over : maxCharacterWidth < m → BadShape
+    rules-outside : (rules : ℕ) → y .layout ≡ Smushing (Controlled rules) → (rules < 1) ⊎ (maxRules < rules) → BadShape
+    hardblank-refused : legalHardblank (y .hardblank .0) ≡ false → BadShape
+    line-not-exact : (length line ≡ h * n → ⊥) → BadShape
+    character-not-exact : (length character ≡ h * m → ⊥) → BadShape
+
+  abbrev shape : Bool
+  shape = goodShape y h n (length line) m (length character)
+
+  -- a block that is not good
+  block-bad : (most width bytes : ℕ) → goodBlock h most width bytes ≡ false → (most < width → BadShape) → ((bytes ≡ h * width → ⊥) → BadShape) → BadShape
+  unfolding goodBlock
+  block-bad most width bytes e over inexact =
+      let t1 = leb 1 h in
+      let t2 = t1 && leb h maxHeight in
+      let t3 = t2 && leb width most in
+      ⊎-elim
+      (λ a. ⊎-elim (λ b. ⊎-elim (λ c. height-under (leb-false 1 h c)) (λ c. height-over (leb-false h maxHeight c)) (and-none t1 _ b)) (λ b. over (leb-false width most b)) (and-none t2 _ a))
+      (λ a. inexact (eqb-false bytes (h * width) a)) (and-none t3 _ e)
+
+  layout-bad : (layout : Layout) → y .layout ≡ layout → goodLayout layout ≡ false → BadShape
+  layout-bad FullWidth q e = absurd (true≢false e)
+  layout-bad Fitting q e = absurd (true≢false e)
+  layout-bad (Smushing Universal) q e = absurd (true≢false e)
+  layout-bad (Smushing (Controlled rules)) q e = rules-outside rules q (⊎-elim (λ a. inl (leb-false 1 rules a)) (λ a. inr (leb-false rules maxRules a)) (and-none (leb 1 rules) _ e))
+
+  pub shape-bad : shape ≡ false → BadShape
+  unfolding goodShape
+  shape-bad e =
+      let l = goodBlock h maxLineWidth n (length line) in
+      let c = goodBlock h maxCharacterWidth m (length character) in
+      ⊎-elim
+      (λ a. ⊎-elim (λ b. ⊎-elim (λ u. block-bad maxLineWidth n (length line) u line-over line-not-exact) (λ u. block-bad maxCharacterWidth m (length character) u character-over character-not-exact) (and-none l c b)) (λ b. layout-bad (y .layout) refl b) (and-none (l && c) _ a))
+      hardblank-refused (and-none (l && c && goodLayout (y .layout)) _ e)
+
+  -- a good block, layout and hardblank are none of these
+  good-is : shape ≡ true → BadShape → ⊥
+  unfolding goodShape goodBlock
+  good-is e b =
+      let l = goodBlock h maxLineWidth n (length line) in
+      let c = goodBlock h maxCharacterWidth m (length character) in
+      let e3 : (l && c && goodLayout (y .layout)) ≡ true = and-left (l && c && goodLayout (y .layout)) _ e in
+      let e2 : (l && c) ≡ true = and-left (l && c) _ e3 in
+      go (block-good maxLineWidth n (length line) (and-left l c e2)) (block-good maxCharacterWidth m (length character) (and-right l c e2)) (and-right (l && c) _ e3) (and-right (l && c && goodLayout (y .layout)) _ e) b
+    where
+      block-good : (most width bytes : ℕ) → goodBlock h most width bytes ≡ true → (1 ≤ h) × (h ≤ maxHeight) × (width ≤ most) × (bytes ≡ h * width)
+      block-good most width bytes e =
+          let t1 = leb 1 h in
+          let t2 = t1 && leb h maxHeight in
+          let t3 = t2 && leb width most in
+          let e3 : t3 ≡ true = and-left t3 _ e in
+          let e2 : t2 ≡ true = and-left t2 _ e3 in
+          (leb-true 1 h (and-left t1 _ e2), leb-true h maxHeight (and-right t1 _ e2), leb-true width most (and-right t2 _ e3), eqb-true bytes (h * width) (and-right t3 _ e))
+
+      rules-good : (rules : ℕ) → goodKind (Controlled rules) ≡ true → (rules < 1) ⊎ (maxRules < rules) → ⊥
+      rules-good rules e w =
+          let low = leb-true 1 rules (and-left (leb 1 rules) _ e) in
+          let high = leb-true rules maxRules (and-right (leb 1 rules) _ e) in
+          ⊎-elim (λ a. omega arith) (λ a. omega arith) w
+
+      go : (1 ≤ h) × (h ≤ maxHeight) × (n ≤ maxLineWidth) × (length line ≡ h * n) → (1 ≤ h) × (h ≤ maxHeight) × (m ≤ maxCharacterWidth) × (length character ≡ h * m) → goodLayout (y .layout) ≡ true → legalHardblank (y .hardblank .0) ≡ true → BadShape → ⊥
+      go p q k b (height-under u) = omega (arith, p .0)
+      go p q k b (height-over u) = omega (arith, p .1)
+      go p q k b (line-over u) = omega (arith, p .2)
+      go p q k b (character-over u) = omega (arith, q .2)
+      go p q k b (rules-outside rules e u) = rules-good rules (sym (ap goodLayout e) ∙ k) u
+      go p q k b (hardblank-refused u) = never-both (legalHardblank (y .hardblank .0)) b u
+      go p q k b (line-not-exact u) = u (p .3)
+      go p q k b (character-not-exact u) = u (q .3)
+
+  module _ (room : ℕ) where
+    abbrev left : Block
+    left = leftOf (y .direction) (exactBlock n line) (exactBlock m character)
+
+    abbrev right : Block
+    right = rightOf (y .direction) (exactBlock n line) (exactBlock m character)
+
+    abbrev width : ℕ
+    width = besides y h left right .width
+
+    abbrev answer : JoinTold
+    answer = joinTold y h n line m character room
+
+    -- "Join: 17, 16, 9", each at place 0; otherwise overlap and width.
+    pub data JoinsTo : JoinTold → Type 0 where
+      bad-shape : BadShape → JoinsTo (refusing badShape)
+      too-wide : (BadShape → ⊥) → maxLineWidth < width → JoinsTo (refusing lineTooWide)
+      too-small : (BadShape → ⊥) → width ≤ maxLineWidth → room < h * width → JoinsTo (refusing areaTooSmall)
+      joined : (BadShape → ⊥) → width ≤ maxLineWidth → h * width ≤ room → JoinsTo (joinTells (Joined (overlap y h left right) width))
+
+    shape-good : (BadShape → ⊥) → shape ≡ true
+    shape-good f = go shape refl
+      where
+        go : (b : Bool) → shape ≡ b → shape ≡ true
+        go true e = e
+        go false e = absurd (f (shape-bad e))
+
+    bad-shaped : BadShape → shape ≡ false
+    bad-shaped b = go shape refl
+      where
+        go : (t : Bool) → shape ≡ t → shape ≡ false
+        go true e = absurd (good-is e b)
+        go false e = e
+
+    -- Each of these gives its answer,
+    pub gives : (t : JoinTold) → JoinsTo t → answer ≡ t
+    unfolding joinTold toldOf
+    gives _ (bad-shape b) = rw (bad-shaped b)
+    gives _ (too-wide f u) = rw (shape-good f, lt-ltb maxLineWidth width u)
+    gives _ (too-small f u v) = rw (shape-good f, le-ltb maxLineWidth width u, lt-ltb room (h * width) v)
+    gives _ (joined f u v) = rw (shape-good f, le-ltb maxLineWidth width u, le-ltb room (h * width) v)
+
+    -- and the answer is one of them.
+    pub one-of : JoinsTo answer
+    one-of = by-shape shape refl
+      where
+        as-told : (t : JoinTold) → JoinsTo t → JoinsTo answer
+        as-told t j = subst JoinsTo (sym (gives t j)) j
+
+        by-room : (BadShape → ⊥) → width ≤ maxLineWidth → (b : Bool) → ltb room (h * width) ≡ b → JoinsTo answer
+        by-room f u true e = as-told _ (too-small f u (ltb-true room (h * width) e))
+        by-room f u false e = as-told _ (joined f u (ltb-false room (h * width) e))
+
+        by-width : (BadShape → ⊥) → (b : Bool) → ltb maxLineWidth width ≡ b → JoinsTo answer
+        by-width f true e = as-told _ (too-wide f (ltb-true maxLineWidth width e))
+        by-width f false e = by-room f (ltb-false maxLineWidth width e) (ltb room (h * width)) refl
+
+        by-shape : (b : Bool) → shape ≡ b → JoinsTo answer
+        by-shape true e = by-width (good-is e) (ltb maxLineWidth width) refl
+        by-shape false e = as-told _ (bad-shape (shape-bad e))
+
+    -- What a refusal tells: one of the three numbers, place 0.
+    pub refused-tells : answer .refused ≡ true → (areaTooSmall ≤ answer .number) × (answer .number ≤ badShape) × (answer .place ≡ 0)
+    refused-tells e = go answer one-of e
+      where
+        go : (t : JoinTold) → JoinsTo t → t .refused ≡ true → (areaTooSmall ≤ t .number) × (t .number ≤ badShape) × (t .place ≡ 0)
+        go _ (bad-shape b) e = (omega arith, omega arith, refl)
+        go _ (too-wide f u) e = (omega arith, omega arith, refl)
+        go _ (too-small f u v) e = (omega arith, omega arith, refl)
+        go _ (joined f u v) e = absurd (true≢false (sym e))
+
+    -- The result is at most 1,000 columns wide, and the overlap is not wider.
+    pub joined-within : (o w : ℕ) → joinTells (Joined o w) ≡ answer → (o ≤ w) × (w ≤ maxLineWidth)
+    unfolding besides
+    joined-within o w e = go answer one-of e
+      where
+        go : (t : JoinTold) → JoinsTo t → joinTells (Joined o w) ≡ t → (o ≤ w) × (w ≤ maxLineWidth)
+        go _ (bad-shape b) e = absurd (true≢false (sym (ap (λ (t : JoinTold). t .refused) e)))
+        go _ (too-wide f u) e = absurd (true≢false (sym (ap (λ (t : JoinTold). t .refused) e)))
+        go _ (too-small f u v) e = absurd (true≢false (sym (ap (λ (t : JoinTold). t .refused) e)))
+        go _ (joined f u v) e =
+            let over : o ≡ overlap y h left right = ap (λ (t : JoinTold). t .overlap) e in
+            let wide : w ≡ width = ap (λ (t : JoinTold). t .width) e in
+            (omega (arith, over, wide, overlap-narrower h left right y), omega (arith, wide, u))

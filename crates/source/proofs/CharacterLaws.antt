@@ -1,0 +1,96 @@
+-- The character that a font has for a code: its rows are parts of the font, and what was chosen is what the font has.
+-- Assumes nothing.
+use mathlib.Core.Path.{_≡_, refl, sym, ap, subst}
+use mathlib.Core.Bool.{Bool, true, false, cond}
+use Prim.Native.Nat.{ℕ, _+_, _≤_, _<_}
+use mathlib.Core.List.{List}
+use native.Mathlib.Omega.{arith}
+use lib.IntN.{ℤ}
+use lib.ListN.{getD, length, take}
+use Rattle.ground.specs.Limits.{maxFontLength, maxHeight}
+use Rattle.subchars.specs.declared.Code.{Code}
+use Rattle.join.specs.Writing.{Like}
+use Rattle.figure.specs.Scratch.{characterAt, RowsIn}
+use Rattle.header.specs.declared.Header.{Header}
+use Rattle.chars.specs.declared.Entry.{Entry}
+use Rattle.chars.specs.Codes.{sameCode}
+use Rattle.font.specs.Font.{says, format, reading}
+use Rattle.font.proofs.ReadingLaws.{font-read}
+use Rattle.index.specs.Index.{CharacterRoom, Lists}
+use Rattle.index.specs.Latest.{Latest}
+use Rattle.reader.specs.declared.Use.{Use}
+use Rattle.reader.specs.declared.Use.the-variants.{Used, Nothing}
+use Rattle.reader.specs.Reader.{used}
+use Rattle.request.proofs.RowLaws.{RowStands, used-stands}
+use Rattle.lines.specs.Lines.{lineEnd, after}
+use Rattle.source.specs.declared.Chosen.{Chosen}
+use Rattle.source.specs.declared.Chosen.the-variants as chosen
+use Rattle.source.specs.Source.{Source, found, stoodIn, characterOf, choiceOf, fontSource}
+use Rattle.source.specs.Held.{FontHeld, Gives, of-font}
+use Rattle.source.specs.Steps.{Standing, RowPlaces, Shows, ChosenAs}
+
+-- "Height 1 to 32."
+module _ (s : List ℕ) (h : Header) (count : ℕ) (codes : List ℤ) (starts widths places : List ℕ) (held : FontHeld s h count codes starts widths places) where
+  pub few-rows : h .height ≤ maxHeight
+  few-rows = font-read s h (held .characters) (held .said) .high .1
+
+  some-rows : 0 < h .height
+  some-rows = font-read s h (held .characters) (held .said) .high .0
+
+  module _ (c : Code) (e : Entry) (u : Used e ≡ used c (held .characters)) where
+    stands : (r : ℕ) → r < h .height → RowStands (format h) s (e .width) (after r s (e .start))
+    stands r l = used-stands s h (held .characters) (held .said) e c (sym u) r l
+
+    font-standing : Standing s (e .start) (e .width) (h .height)
+    font-standing = record { ends = λ r l. stands r l .ends; fits = λ r l. stands r l .fits }
+
+    font-marked : (r : ℕ) → r < h .height → after r s (e .start) + e .width < lineEnd s (after r s (e .start))
+    font-marked r l = stands r l .marked
+
+    font-shows : (at : List ℕ) → RowPlaces s (e .start) (h .height) at → Shows s at (e .width) (h .height) (characterOf s e)
+    font-shows at p =
+        record {
+          narrow = let f = font-read s h (held .characters) (held .said) in omega (arith, stands 0 (f .high .0) .fits, f .short);
+          rows = record { many = p .many; within = λ r l. omega (arith, stands r l .fits, p .at r l) };
+          like = record { width = refl; cells = λ r k l m. ap (λ (q : ℕ). getD s (q + k) 0) (p .at r l) };
+        }
+
+    font-chosen : (at : List ℕ) → RowPlaces s (e .start) (h .height) at → ChosenAs s at (h .height) (chosen.Character (e .width)) (fontSource s (held .characters) c)
+    unfolding fontSource
+    font-chosen at p = subst (λ (x : Use). ChosenAs s at (h .height) (chosen.Character (e .width)) (choiceOf s c x)) u (go (sameCode (e .code) c))
+      where
+        go : (b : Bool) → ChosenAs s at (h .height) (chosen.Character (e .width)) (cond b (found (characterOf s e)) (stoodIn (characterOf s e)))
+        go true = font-shows at p
+        go false = font-shows at p
+
+  font-nothing : (c : Code) → Nothing ≡ used c (held .characters) → (at : List ℕ) → ChosenAs s at (h .height) chosen.Nothing (fontSource s (held .characters) c)
+  unfolding fontSource
+  font-nothing c u at = subst (λ (x : Use). ChosenAs s at (h .height) chosen.Nothing (choiceOf s c x)) u tt
+
+-- The same of every source that is given.
+module _ (source : Source) (s : List ℕ) (height count : ℕ) (codes : List ℤ) (starts widths places : List ℕ) where
+  abbrev Given : Type 0
+  Given = Gives source s height count codes starts widths places
+
+  pub given-high : Given → (0 < height) × (height ≤ maxHeight)
+  given-high (of-font h held e f) = rw e (some-rows s h count codes starts widths places held, few-rows s h count codes starts widths places held)
+
+  pub given-room : Given → CharacterRoom count codes starts widths × Latest (take count codes) places
+  given-room (of-font h held e f) = (held .long, held .latest)
+
+  -- what is found in the lists for a code
+  abbrev pub Looked : Code → Use → Type 0
+  Looked c x = (es : List Entry) → count ≡ length es → Lists es codes starts widths → x ≡ used c es
+
+  module _ (c : Code) (x : Entry) (looked : Looked c (Used x)) where
+    pub given-standing : Given → Standing s (x .start) (x .width) height
+    given-standing (of-font h held e f) = rw e (font-standing s h count codes starts widths places held c x (looked (held .characters) (held .count) (held .lists)))
+
+    pub given-marked : Given → (r : ℕ) → r < height → after r s (x .start) + x .width < lineEnd s (after r s (x .start))
+    given-marked (of-font h held e f) = rw e (font-marked s h count codes starts widths places held c x (looked (held .characters) (held .count) (held .lists)))
+
+    pub given-chosen : (at : List ℕ) → RowPlaces s (x .start) height at → Given → ChosenAs s at height (chosen.Character (x .width)) (source c)
+    given-chosen at p (of-font h held e f) = rw (e, f) (font-chosen s h count codes starts widths places held c x (looked (held .characters) (held .count) (held .lists)) at (rw e at p))
+
+  pub given-nothing : (c : Code) → Looked c Nothing → (at : List ℕ) → Given → ChosenAs s at height chosen.Nothing (source c)
+  given-nothing c looked at (of-font h held e f) = rw (e, f) (font-nothing s h count codes starts widths places held c (looked (held .characters) (held .count) (held .lists)) at)

@@ -1,0 +1,46 @@
+-- `source::choose` meets its contract.
+-- Assumes nothing.
+use mathlib.Core.Path.{sym, _∙_}
+use native.Mathlib.Omega.{arith}
+use borrow.Author.Needs.{needs}
+use Rattle.source.proofs.CharacterLaws.{given-high, given-room, given-standing, given-marked, given-chosen, given-nothing}
+use Rattle.source.proofs.choose.Statement.{statement}
+use Rattle.source.proofs.choose.Tie as tie
+
+find-known-requires : tie.Need-find-known-requires
+find-known-requires c κs = given-room _ _ _ _ _ _ _ _ (c .before .before .before .before .before .pre .0 .1)
+
+enum-known-entry : tie.Need-enum-known-entry
+enum-known-entry c = search needs
+
+find-rows-requires : tie.Need-find-rows-requires
+find-rows-requires c κs =
+    let g = c .before .before .before .before .before .before .before .before .before .before .pre .0 .1 in
+    let h = given-high _ _ _ _ _ _ _ _ g in (
+      (h .0, omega (arith, h .1, c .before .before .before .before .before .before .before .before .before .before .pre .1)),
+      (given-standing _ _ _ _ _ _ _ _ (c .before .before .before .before .before .before .before .before .before .before .args .code) _ (λ es n l. sym (c .before .before .entry .given .1) ∙ c .before .before .before .before .find-known .ensures es n l) g, given-marked _ _ _ _ _ _ _ _ (c .before .before .before .before .before .before .before .before .before .before .args .code) _ (λ es n l. sym (c .before .before .entry .given .1) ∙ c .before .before .before .before .find-known .ensures es n l) g),
+    )
+
+enum-told : tie.Need-enum-told
+enum-told c = search needs
+
+same-length : tie.Need-same-length
+same-length c = search needs
+
+returns : tie.Need-returns
+returns c = λ source g. given-chosen source _ _ _ _ _ _ _ (c .before .before .before .before .before .before .before .before .before .before .before .before .before .args .code) _ (λ es n l. sym (c .before .before .before .before .before .entry .given .1) ∙ c .before .before .before .before .before .before .before .find-known .ensures es n l) _ (c .before .before .find-rows .ensures) g
+
+returns-2 : tie.Need-returns-2
+returns-2 c = λ source g. given-nothing source _ _ _ _ _ _ _ (c .before .before .before .before .before .before .before .before .args .code) (λ es n l. sym (c .enum-told .given .1) ∙ c .before .before .find-known .ensures es n l) _ g
+
+pub choose-spec : {M : Type 1} → statement M
+choose-spec =
+    tie.close
+    (tie.spec
+    find-known-requires
+    enum-known-entry
+    find-rows-requires
+    enum-told
+    same-length
+    returns
+    returns-2)

@@ -1,0 +1,4 @@
+-- Where the characters of a drawing come from, and what the lists of a font hold of it.
+pub mod Source
+pub mod Held
+pub mod Steps

@@ -1,0 +1,39 @@
+-- The character that was chosen for a code: its width, and where its rows start in the bytes of its source.
+-- Assumes nothing.
+use mathlib.Core.Path.{_≡_}
+use Prim.Native.Nat.{ℕ, _+_, _<_, _≤_}
+use mathlib.Core.List.{List}
+use lib.ListN.{length, getD}
+use Rattle.ground.specs.Limits.{maxFontLength}
+use Rattle.join.specs.Join.{Block}
+use Rattle.join.specs.Writing.{Like}
+use Rattle.figure.specs.Scratch.{characterAt, RowsIn}
+use Rattle.lines.specs.Lines.{lineEnd, after}
+use Rattle.source.specs.declared.Chosen.{Chosen}
+use Rattle.source.specs.declared.Chosen.the-variants.{Character, Nothing}
+use Rattle.source.specs.Source.{Choice, found, stoodIn, nothing}
+
+-- h rows of width w, from the line that starts at a place on: each is a part of its line.
+pub record Standing (s : List ℕ) (start w h : ℕ) : Type 0 where
+  pub ends : (r : ℕ) → r < h → after r s start + w ≤ lineEnd s (after r s start)
+  pub fits : (r : ℕ) → r < h → after r s start + w ≤ length s
+
+-- The places where they start.
+pub record RowPlaces (s : List ℕ) (start h : ℕ) (places : List ℕ) : Type 0 where
+  pub many : h ≤ length places
+  pub at : (r : ℕ) → r < h → getD places r 0 ≡ after r s start
+
+-- The rows that start at the given places are those of a character, w wide.
+pub record Shows (s starts : List ℕ) (w h : ℕ) (character : Block) : Type 0 where
+  pub narrow : w ≤ maxFontLength
+  pub rows : RowsIn s starts w h
+  pub like : Like h (characterAt s starts w) character
+
+-- What was chosen is what the source has for the code.
+abbrev pub ChosenAs : List ℕ → List ℕ → ℕ → Chosen → Choice → Type 0
+ChosenAs s starts h (Character w) (found b) = Shows s starts w h b
+ChosenAs s starts h (Character w) (stoodIn b) = Shows s starts w h b
+ChosenAs s starts h (Character w) nothing = ⊥
+ChosenAs s starts h Nothing (found b) = ⊥
+ChosenAs s starts h Nothing (stoodIn b) = ⊥
+ChosenAs s starts h Nothing nothing = Unit

@@ -1,0 +1,119 @@
+// Where the characters of a drawing come from: a font read into lists, and the character that it has for a code.
+use index::latest;
+use lines::Cursor;
+use lines::LineStep;
+use reader::FontAnswer;
+use reader::Use;
+use subchars::Code;
+ghost use mathlib.Core.Path.{_≡_};
+ghost use mathlib.Core.Bool.{true};
+ghost use Prim.Native.Nat.{ℕ, _+_, _<_, _≤_};
+ghost use lib.ListN.{length};
+ghost use Rattle.ground.specs.Limits.{maxHeight, maxCharacters};
+ghost use Rattle.lines.specs.Lines.{lineEnd, nextStart, after};
+ghost use Rattle.index.specs.Index.{CharacterRoom};
+ghost use Rattle.index.specs.Latest.{smallCodes};
+ghost use Rattle.source.specs.Source.{Source};
+ghost use Rattle.source.specs.Held.{FontHeldBy, Gives};
+ghost use Rattle.source.specs.Steps.{Standing, RowPlaces, ChosenAs};
+
+// What is drawn for a code: a character of the given width, or nothing.
+pub enum Chosen {
+    Character(usize),
+    Nothing,
+}
+
+// Whether an LF stands directly behind a byte of a line: so most rows of a font end, by one endmark.
+fn one_mark(font: &[u8], at: usize) -> bool
+    requires { ⌜ at < lineEnd (now font) at ⌝ }
+    ensures { λ b. ⌜ (b ≡ true → nextStart (now (font .entry)) at ≡ at + 2) ⌝ }
+{
+    if font.len() <= at + 1 {
+        return false;
+    }
+    font[at + 1] == b'\n'
+}
+
+// Where the line behind a byte of a line starts.
+fn next_place(font: &[u8], at: usize) -> usize
+    requires { ⌜ at < lineEnd (now font) at ⌝ }
+    ensures { λ r. ⌜ r ≡ nextStart (now (font .entry)) at ⌝ }
+{
+    if one_mark(font, at) {
+        return at + 2;
+    }
+    let cursor = Cursor { at };
+    match cursor.next(font) {
+        LineStep::Line {
+            start: _,
+            end: _,
+            next,
+        } => next.at,
+        LineStep::NoLine => at,
+    }
+}
+
+// Where the rows of a FIGcharacter start. A row's own bytes are passed over: only the endmarks behind them are looked at.
+fn find_rows(font: &[u8], start: usize, width: usize, h: usize, rows: &mut [usize])
+    requires { ⌜ (0 < h) × (h ≤ length (now rows)) ⌝ }
+    requires { ⌜ Standing (now font) start width h ⌝ }
+    requires { ⌜ ((r : ℕ) → r < h → after r (now font) start + width < lineEnd (now font) (after r (now font) start)) ⌝ }
+    ensures { λ _. ⌜ RowPlaces (now (font .entry)) start h (now (rows .exit)) ⌝ }
+{
+    rows[0] = start;
+    let mut last: usize = 0;
+    let mut at = start;
+    while last + 1 < h {
+        at = next_place(font, at + width);
+        last += 1;
+        rows[last] = at;
+    }
+}
+
+// The character that is drawn for a code, of the given height; where its rows start is written into a lent list.
+pub fn choose(
+    code: Code,
+    font: &[u8],
+    height: usize,
+    count: usize,
+    codes: &[i32],
+    starts: &[usize],
+    widths: &[usize],
+    places: &[usize],
+    found: &mut [usize],
+) -> Chosen
+    requires { ⌜ ((source : Source) × Gives source (now font) height count (now codes) (now starts) (now widths) (now places)) ⌝ }
+    requires { ⌜ maxHeight ≤ length (now found) ⌝ }
+    ensures { λ r. ⌜ ((source : Source) → Gives source (now (font .entry)) height count (now (codes .entry)) (now (starts .entry)) (now (widths .entry)) (now (places .entry)) → ChosenAs (now (font .entry)) (now (found .exit)) height r (source code)) ⌝ }
+{
+    match reader::find_known(codes, starts, widths, count, places, code) {
+        Use::Used(entry) => {
+            let start = entry.start;
+            let width = entry.width;
+            find_rows(font, start, width, height, found);
+            Chosen::Character(width)
+        }
+        Use::Nothing => Chosen::Nothing,
+    }
+}
+
+// Reads a font into the lists, with the last place of each code below 256.
+pub fn read_font(
+    font: &[u8],
+    codes: &mut [i32],
+    starts: &mut [usize],
+    widths: &mut [usize],
+    places: &mut [usize],
+) -> FontAnswer
+    requires { ⌜ CharacterRoom maxCharacters (now codes) (now starts) (now widths) ⌝ }
+    requires { ⌜ length (now places) ≡ smallCodes ⌝ }
+    ensures { λ r. ⌜ FontHeldBy (now (font .entry)) r (now (codes .exit)) (now (starts .exit)) (now (widths .exit)) (now (places .exit)) ⌝ }
+{
+    match reader::read_lists(font, codes, starts, widths) {
+        FontAnswer::Read { header, count } => {
+            latest::find_latest(&codes[..count], places);
+            FontAnswer::Read { header, count }
+        }
+        FontAnswer::Refused(r) => FontAnswer::Refused(r),
+    }
+}

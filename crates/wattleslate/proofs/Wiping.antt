@@ -1,0 +1,55 @@
+-- After a refusal every area that a call was lent for writing is filled with zeros.
+-- Assumes nothing.
+use mathlib.Core.Path.{_≡_, refl, ap, _∙_}
+use mathlib.Core.Bool.{Bool, true, cond, false≢true}
+use mathlib.Core.List.{List, []}
+use Prim.Native.Nat.{ℕ, _-_}
+use native.Mathlib.Omega.{arith}
+use lib.IntN.{ℤ, pos}
+use lib.ListN.{length, replicate}
+use Rattle.ground.specs.Area.{zeros, padded}
+use Rattle.ground.specs.declared.refusals.Refusal.{Refusal}
+use Rattle.subchars.specs.declared.Mode.{Mode}
+use Rattle.join.specs.Join.{exactBlock, leftOf, rightOf, besides, rowsOf}
+use Rattle.join.specs.JoinCall.{joinTold, joinArea}
+use Rattle.figure.specs.declared.DrawAnswer.{DrawAnswer}
+use Rattle.figure.specs.declared.DrawAnswer.the-variants.{Drawn, Refused}
+use Rattle.figure.specs.Line.{shown, outputOf, drawnOnly, outputBytes}
+use Rattle.font.specs.Font.{FontReading, refuses}
+use Rattle.entries.specs.Filling.{fontReading, zeroEntry, indexOf}
+use Rattle.flc.specs.Control as flc
+use Rattle.flc.specs.Lists.{CommandLists, commandLists, listsOf, controlReading}
+use Rattle.drawing.specs.Drawing.{Lined, lined, unlined, drawLined, linedAnswer, bytesOf}
+use Rattle.wattleslate.specs.DrawCall.{drawTells, drawTold, drawOutput}
+
+-- a number less 0
+less-none : (n : ℕ) → n - 0 ≡ n
+less-none n = omega arith
+
+pub index-wiped : (room : ℕ) (s : List ℕ) (r : Refusal) → fontReading room s ≡ refuses r → indexOf (fontReading room s) room ≡ replicate room zeroEntry
+unfolding indexOf
+index-wiped room s r e = ap (λ (m : FontReading). indexOf m room) e ∙ ap (λ (n : ℕ). replicate n zeroEntry) (less-none room)
+
+pub lists-wiped : (lent : CommandLists) (s : List ℕ) (r : Refusal) → controlReading lent s ≡ flc.refuses r →
+    listsOf (controlReading lent s) lent ≡ commandLists (zeros (length (lent .stages))) (replicate (length (lent .firsts)) (pos 0)) (replicate (length (lent .lasts)) (pos 0)) (replicate (length (lent .news)) (pos 0))
+lists-wiped lent s r e =
+    ap (λ (x : flc.ControlReading). listsOf x lent) e ∙
+    rw (less-none (length (lent .stages)), less-none (length (lent .firsts)), less-none (length (lent .lasts)), less-none (length (lent .news))) refl
+
+pub join-wiped : (y : Mode) (h n : ℕ) (line : List ℕ) (m : ℕ) (character : List ℕ) (room : ℕ) → joinTold y h n line m character room .refused ≡ true → joinArea y h n line m character room ≡ zeros room
+unfolding joinArea
+join-wiped y h n line m character room e =
+    let f = besides y h (leftOf (y .direction) (exactBlock n line) (exactBlock m character)) (rightOf (y .direction) (exactBlock n line) (exactBlock m character)) in
+    ap (λ (b : Bool). padded (cond b [] (rowsOf (f .cells) h (f .width))) room) e ∙ ap zeros (less-none room)
+
+pub draw-wiped : (size : ℕ) (s control text : List ℕ) (room : ℕ) → drawTold size s control text room .refused ≡ true → drawOutput size s control text room ≡ zeros room
+unfolding drawTold drawOutput linedAnswer bytesOf outputBytes
+draw-wiped size s control text room e = ap (λ (b : List ℕ). padded b room) (none (drawLined size s control text) e) ∙ ap zeros (less-none room)
+  where
+    put-none : (a : DrawAnswer) (bytes : List ℕ) → drawTells a .refused ≡ true → drawnOnly a bytes ≡ []
+    put-none (Drawn w) bytes q = absurd (false≢true q)
+    put-none (Refused r) bytes q = refl
+
+    none : (l : Lined) → drawTells (linedAnswer l room) .refused ≡ true → bytesOf l room ≡ []
+    none (lined y h l) q = put-none (outputOf h l room) (shown (y .hardblank .0) h l) q
+    none (unlined r) q = refl
