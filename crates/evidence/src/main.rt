@@ -94,13 +94,12 @@ fn request(line: &[u8]) {
 
 // The requests of a text, a line each.
 fn requests(t: &[u8]) {
-    let mut at: usize = 0;
+    let mut cursor = Cursor::new();
     loop {
-        let cursor = Cursor { at };
         match cursor.next(t) {
             LineStep::Line { start, end, next } => {
                 request(&t[start..end]);
-                at = next.at;
+                cursor = next;
             }
             LineStep::NoLine => {
                 return;
