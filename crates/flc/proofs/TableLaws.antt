@@ -20,13 +20,13 @@ use Rattle.flc.proofs.RefusalLaws as stops
 use Rattle.flc.proofs.RefusalLaws.{CommandsStop, ControlStops, kind-by, without-command, long-is, short-is, only-control}
 
 -- "Then 11 to 14 as met": of a control file s the stage, the number of commands before, and the lines that remain.
-pub data Comes (s : List ℕ) : ℕ → ℕ → List TextLine → Type 0 where
+pub data Reaches (s : List ℕ) : ℕ → ℕ → List TextLine → Type 0 where
   -- "a first line beginning flc2a is passed over"
-  at-first : length s ≤ maxControlFile → Comes s 0 0 (behindSignature (linesFrom s 0))
-  past-comment : {stage n : ℕ} {l : TextLine} {ls : List TextLine} → Comes s stage n (l ∷ ls) → lineKind (l .text) ≡ Comment → Comes s stage n ls
-  past-command : {stage n : ℕ} {l : TextLine} {ls : List TextLine} → Comes s stage n (l ∷ ls) → (first last firstNew : Code) → lineKind (l .text) ≡ Mapping first last firstNew → n < maxCommands → Comes s stage (n + 1) ls
+  at-first : length s ≤ maxControlFile → Reaches s 0 0 (behindSignature (linesFrom s 0))
+  past-comment : {stage n : ℕ} {l : TextLine} {ls : List TextLine} → Reaches s stage n (l ∷ ls) → lineKind (l .text) ≡ Comment → Reaches s stage n ls
+  past-command : {stage n : ℕ} {l : TextLine} {ls : List TextLine} → Reaches s stage n (l ∷ ls) → (first last firstNew : Code) → lineKind (l .text) ≡ Mapping first last firstNew → n < maxCommands → Reaches s stage (n + 1) ls
   -- "`f` starts the next stage"
-  past-stage : {stage n : ℕ} {l : TextLine} {ls : List TextLine} → Comes s stage n (l ∷ ls) → lineKind (l .text) ≡ NewStage → stage + 1 < maxStages → Comes s (stage + 1) n ls
+  past-stage : {stage n : ℕ} {l : TextLine} {ls : List TextLine} → Reaches s stage n (l ∷ ls) → lineKind (l .text) ≡ NewStage → stage + 1 < maxStages → Reaches s (stage + 1) n ls
 
 module _ (s : List ℕ) where
   -- A control file is refused exactly as the lines that remain.
@@ -39,7 +39,7 @@ module _ (s : List ℕ) where
   listed : (c : Command) (x y : ControlReading) → x ≡ withCommand c y → Decides x → Decides y
   listed c x y e d r = (λ q. without-command c y r (sym e ∙ d r .0 q), λ q. d r .1 (e ∙ ap (withCommand c) q))
 
-  decides : (stage n : ℕ) (ls : List TextLine) → Comes s stage n ls → Decides (commandsOn stage n ls)
+  decides : (stage n : ℕ) (ls : List TextLine) → Reaches s stage n ls → Decides (commandsOn stage n ls)
   decides _ _ _ (at-first u) = λ r. (λ q. sym (short-is s u) ∙ q, λ q. short-is s u ∙ q)
   decides stage n ls (past-comment {l = l} c e) = passed _ _ (kind-by stage n l ls Comment e) (decides stage n (l ∷ ls) c)
   decides stage _ ls (past-command {n = n} {l = l} c x y z e u) = listed (commandOf stage x y z) _ (commandsOn stage (n + 1) ls) (kind-by stage n l ls (Mapping x y z) e ∙ simp (lt-ltb n maxCommands u)) (decides stage n (l ∷ ls) c)
@@ -52,18 +52,18 @@ module _ (s : List ℕ) where
 
   abbrev NoCommandAt : ℕ → Type 0
   NoCommandAt p =
-      (stage n : ℕ) × (l : TextLine) × (ls : List TextLine) × (p ≡ l .start) × Comes s stage n (l ∷ ls) ×
+      (stage n : ℕ) × (l : TextLine) × (ls : List TextLine) × (p ≡ l .start) × Reaches s stage n (l ∷ ls) ×
       (IsComment (l .text) → ⊥) × (IsExtended (l .text) → ⊥) × (IsStage (l .text) → ⊥) × ((a b c : Code) → IsMapping (l .text) a b c → ⊥) × (IsBadRanges (l .text) → ⊥)
 
   abbrev BadRangesAt : ℕ → Type 0
-  BadRangesAt p = (stage n : ℕ) × (l : TextLine) × (ls : List TextLine) × (p ≡ l .start) × Comes s stage n (l ∷ ls) × (IsBadRanges (l .text))
+  BadRangesAt p = (stage n : ℕ) × (l : TextLine) × (ls : List TextLine) × (p ≡ l .start) × Reaches s stage n (l ∷ ls) × (IsBadRanges (l .text))
 
   abbrev ExtendedAt : ℕ → Type 0
-  ExtendedAt p = (stage n : ℕ) × (l : TextLine) × (ls : List TextLine) × (p ≡ l .start) × Comes s stage n (l ∷ ls) × (IsExtended (l .text))
+  ExtendedAt p = (stage n : ℕ) × (l : TextLine) × (ls : List TextLine) × (p ≡ l .start) × Reaches s stage n (l ∷ ls) × (IsExtended (l .text))
 
   abbrev TooManyAt : ℕ → Type 0
   TooManyAt p =
-      (stage n : ℕ) × (l : TextLine) × (ls : List TextLine) × (p ≡ l .start) × Comes s stage n (l ∷ ls) ×
+      (stage n : ℕ) × (l : TextLine) × (ls : List TextLine) × (p ≡ l .start) × Reaches s stage n (l ∷ ls) ×
       (((a b c : Code) × (IsMapping (l .text) a b c) × (maxCommands ≤ n)) ⊎ ((IsStage (l .text)) × (maxStages ≤ stage + 1)))
 
   -- the row of a number, and what it says of a place
@@ -75,7 +75,7 @@ module _ (s : List ℕ) where
 
   -- ---------------------------------------------------------------- a refusal is of its row
 
-  commands-met : (stage n : ℕ) (ls : List TextLine) (r : Refusal) → Comes s stage n ls → CommandsStop stage n ls r → Row r
+  commands-met : (stage n : ℕ) (ls : List TextLine) (r : Refusal) → Reaches s stage n ls → CommandsStop stage n ls r → Row r
   commands-met stage n (l ∷ ls) _ c (stops.not-command e) =
       let w = no-command-exactly (l .text) .0 e in (stage, n, l, ls, refl, c, w .0, w .1, w .2, w .3, w .4)
   commands-met stage n (l ∷ ls) _ c (stops.bad-ranges e) = (stage, n, l, ls, refl, c, bad-ranges-exactly (l .text) .0 e)

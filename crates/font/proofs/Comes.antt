@@ -2,9 +2,9 @@
 -- Assumes nothing.
 use mathlib.Core.Path.{_≡_, refl, sym, ap, _∙_}
 use mathlib.Core.Bool.{Bool, true, false, cond}
-use mathlib.Core.List.{List, [], _∷_}
+use mathlib.Core.List.{List, _∷_}
 use mathlib.Core.Logic.{_↔_}
-use Prim.Native.Nat.{ℕ, zero, suc, _-_, _≤_, _<_}
+use Prim.Native.Nat.{ℕ, suc, _-_, _≤_, _<_}
 use native.Mathlib.Omega.{arith}
 use lib.Dec.{leb, leb·zero, leb·suc-suc}
 use lib.IntN.{pos}
@@ -12,7 +12,6 @@ use lib.ListN.{length, getD, drop}
 use borrow.Author.Tests.{eq-eqb}
 use Rattle.ground.specs.Refusals.{refusal, missingLine}
 use Rattle.ground.specs.declared.refusals.Refusal.{Refusal}
-use Rattle.ground.proofs.Tests.{clash}
 use Rattle.ground.specs.Limits.{maxFontLength, maxCharacters}
 use Rattle.subchars.specs.declared.Code.{Code}
 use Rattle.lines.specs.Lines.{TextLine, linesFrom}
@@ -22,8 +21,7 @@ use Rattle.header.specs.Header.{readHeader}
 use Rattle.rows.specs.declared.Format.{Format}
 use Rattle.rows.specs.declared.RowStep.{RowStep}
 use Rattle.rows.specs.declared.RowStep.the-variants.{Width}
-use Rattle.rows.specs.Rows.{Rows, rowOf, hasWidth, rowsOn, otherRows, characterRows, lineCount}
-use Rattle.chars.specs.declared.Entry.{Entry}
+use Rattle.rows.specs.Rows.{rowOf, hasWidth, rowsOn, otherRows, characterRows, lineCount}
 use Rattle.chars.specs.declared.TagStep.the-variants.{Tag}
 use Rattle.chars.specs.Codes.{code, tagOf, requiredCodes, requiredCount}
 use Rattle.chars.specs.Chars.{Ending, stopped, Listing, blankLines, taggedFrom, listing}

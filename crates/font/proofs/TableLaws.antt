@@ -16,13 +16,13 @@ use Rattle.ground.specs.Limits.{maxFontLength, maxCharacters}
 use Rattle.ground.proofs.Tests.{clash}
 use Rattle.subchars.specs.declared.Code.{Code}
 use Rattle.subchars.specs.Pair.{legalHardblank}
-use Rattle.lines.specs.Lines.{TextLine, linesFrom, textAt, nextStart}
+use Rattle.lines.specs.Lines.{TextLine, linesFrom, textAt}
 use Rattle.lines.specs.Words.{isBlank, firstWord}
 use Rattle.lines.specs.Numbers.{codeNumber}
 use Rattle.lines.specs.declared.numbers.CodeNumber.the-variants.{Named, NotCode}
 use Rattle.lines.proofs.LineLaws.{lines-next, lines-none}
 use Rattle.header.specs.declared.Header.{Header}
-use Rattle.header.specs.declared.HeaderStep.the-variants.{Good, Refused}
+use Rattle.header.specs.declared.HeaderStep.the-variants.{Refused}
 use Rattle.header.specs.declared.Parameters.{Parameters}
 use Rattle.header.specs.declared.ParameterStep.the-variants.{All}
 use Rattle.header.specs.Header.{parameterNumbers, parameters, legalParameters, fontSignature, readHeader}
@@ -35,11 +35,11 @@ use Rattle.rows.proofs.RefusalLaws.{RowsStop, other-missing, other-bad, past-ot
 use Rattle.chars.specs.declared.TagStep.{TagStep}
 use Rattle.chars.specs.declared.TagStep.the-variants.{Tag}
 use Rattle.chars.specs.Codes.{noCode, tagOf, requiredCodes, requiredCount}
-use Rattle.chars.specs.Chars.{Ending, stopped, Listing, ends, blankLines, characterThen, tagged}
+use Rattle.chars.specs.Chars.{stopped, Listing, ends, blankLines, characterThen, tagged}
 use Rattle.chars.proofs.CodeLaws.{still-required, none-required}
 use Rattle.chars.proofs.RefusalLaws as stops
 use Rattle.chars.proofs.RefusalLaws.{code-exactly, CharactersStop, endingBy, others, tag-due, tag-named}
-use Rattle.font.specs.Font.{refuses, format, afterHeader, onLines, reading}
+use Rattle.font.specs.Font.{refuses, format, onLines, reading}
 use Rattle.font.proofs.RefusalLaws.{LinesStop, no-line, in-header, in-comments, in-characters, FontStops, too-long, on-lines, header-by, short-is, long-is, only-font}
 use Rattle.font.proofs.Comes as come
 use Rattle.font.proofs.Comes.{Comes, comments, character, first-row, more-rows, behind-header, past-comment, past-comments, required, past-tag, past-row, past-rows, endFrom, no-required, decides}
