@@ -129,11 +129,12 @@ draw-wiped = wiping.draw-wiped
 
 -- 1 to 8, of a font s.
 module _ (s : List ℕ) where
+  -- The first line, without its end; it is empty where the font is.
   abbrev firstLine : List ℕ
   firstLine = textAt s 0
 
-  abbrev behindSignature : List ℕ
-  behindSignature = drop (length fontSignature) firstLine
+  abbrev behindFlf2a : List ℕ
+  behindFlf2a = drop (length fontSignature) firstLine
 
   -- 1, "font too long", at 0.
   refusal-1 : (p : ℕ) → reading s ≡ refuses (refusal fontTooLong p) ↔ ((p ≡ 0) × (maxFontLength < length s))
@@ -147,15 +148,15 @@ module _ (s : List ℕ) where
   refusal-3 : (p : ℕ) →
       reading s ≡ refuses (refusal badHardblank p) ↔
       ((p ≡ 0) × (length s ≤ maxFontLength) × (begins fontSignature firstLine ≡ true) ×
-      ((behindSignature ≡ []) ⊎
-      ((h : ℕ) × (rest : List ℕ) × (behindSignature ≡ h ∷ rest) × (legalHardblank h ≡ false))))
+      ((behindFlf2a ≡ []) ⊎
+      ((h : ℕ) × (rest : List ℕ) × (behindFlf2a ≡ h ∷ rest) × (legalHardblank h ≡ false))))
   refusal-3 = font-rows.row-3 s
 
   -- 4, "no blank or tab after the hardblank, under five numbers, or a value out of range", at 0.
   refusal-4 : (p : ℕ) →
       reading s ≡ refuses (refusal badParameters p) ↔
       ((p ≡ 0) × (length s ≤ maxFontLength) × (begins fontSignature firstLine ≡ true) ×
-      (h : ℕ) × (rest : List ℕ) × (behindSignature ≡ h ∷ rest) × (legalHardblank h ≡ true) ×
+      (h : ℕ) × (rest : List ℕ) × (behindFlf2a ≡ h ∷ rest) × (legalHardblank h ≡ true) ×
       ((rest ≡ []) ⊎
       ((x : ℕ) × (more : List ℕ) × (rest ≡ x ∷ more) ×
       ((isBlank x ≡ false) ⊎
@@ -221,6 +222,43 @@ module _ (s : List ℕ) where
   font-refusals-of-read-font : (room : ℕ) (r : Refusal) → r .number ≤ tooManyCharacters → fontReading room s ≡ refuses r ↔ ((maxCharacters ≤ room) × (reading s ≡ refuses r))
   font-refusals-of-read-font room = index.refused-font s room
 
+-- The forms of a line t of a control file. "Lines beginning #, empty lines and lines of only blanks and tabs are comments."
+abbrev IsComment : List ℕ → Type 0
+IsComment t = (all isBlank t ≡ true) ⊎ ((xs : List ℕ) × (t ≡ byte "#" ∷ xs))
+
+-- "A line whose first byte is h, j, b, u or g."
+abbrev IsExtended : List ℕ → Type 0
+IsExtended t = (x : ℕ) × (xs : List ℕ) × (t ≡ x ∷ xs) × (among (bytes "hjbug") x ≡ true)
+
+-- "`f`, rest ignored."
+abbrev IsStage : List ℕ → Type 0
+IsStage t = (xs : List ℕ) × (t ≡ byte "f" ∷ xs)
+
+-- "At least one blank or tab stands .. between the two fields; after the second only the line end, a blank or a tab may follow": fields of n and m bytes.
+abbrev TwoFields : Form → List ℕ → Codes → Codes → Type 0
+TwoFields form t one two =
+    (n m : ℕ) × (field form t ≡ Field one n) × (0 < run isBlank (drop n t)) ×
+    (field form (afterBlanks (drop n t)) ≡ Field two m) × (endsField (drop m (afterBlanks (drop n t))) ≡ true)
+
+-- "At least one blank or tab stands after `t`."
+abbrev Translates : List ℕ → Codes → Codes → Type 0
+Translates t one two = (xs : List ℕ) × (t ≡ byte "t" ∷ xs) × (0 < run isBlank xs) × (TwoFields Characters (afterBlanks xs) one two)
+
+-- "`t` with two single characters, or with two ranges; two numbers."
+abbrev IsMapping : List ℕ → Code → Code → Code → Type 0
+IsMapping t first last firstNew =
+    ((last ≡ first) × (Translates t (One first) (One firstNew))) ⊎
+    ((lastNew : Code) × (Translates t (Range first last) (Range firstNew lastNew)) × (goodRanges first last firstNew lastNew ≡ true)) ⊎
+    ((last ≡ first) × (TwoFields Numbers t (One first) (One firstNew)))
+
+-- Two ranges, and "range sizes differ, or first above last".
+abbrev IsBadRanges : List ℕ → Type 0
+IsBadRanges t =
+    (first last firstNew lastNew : Code) × (Translates t (Range first last) (Range firstNew lastNew)) ×
+    ((leZ (first .0) (last .0) ≡ false) ⊎
+    (leZ (firstNew .0) (lastNew .0) ≡ false) ⊎
+    (natAbs (last .0 -ℤ first .0) ≡ natAbs (lastNew .0 -ℤ firstNew .0) → ⊥))
+
 -- 10 to 14, of a control file s.
 module _ (s : List ℕ) where
   -- 9: "Reading a control file: 9 (room for under 256 commands), 10, then 11 to 14 as met".
@@ -233,43 +271,6 @@ module _ (s : List ℕ) where
   -- 10, "control file too long", at 0.
   refusal-10 : (p : ℕ) → flc.control s ≡ flc.refuses (refusal controlFileTooLong p) ↔ ((p ≡ 0) × (maxControlFile < length s))
   refusal-10 = control-rows.row-10 s
-
-  -- The forms of a line t. "Lines beginning #, empty lines and lines of only blanks and tabs are comments."
-  abbrev IsComment : List ℕ → Type 0
-  IsComment t = (all isBlank t ≡ true) ⊎ ((xs : List ℕ) × (t ≡ byte "#" ∷ xs))
-
-  -- "A line whose first byte is h, j, b, u or g."
-  abbrev IsExtended : List ℕ → Type 0
-  IsExtended t = (x : ℕ) × (xs : List ℕ) × (t ≡ x ∷ xs) × (among (bytes "hjbug") x ≡ true)
-
-  -- "`f`, rest ignored."
-  abbrev IsStage : List ℕ → Type 0
-  IsStage t = (xs : List ℕ) × (t ≡ byte "f" ∷ xs)
-
-  -- "At least one blank or tab stands .. between the two fields; after the second only the line end, a blank or a tab may follow": fields of n and m bytes.
-  abbrev TwoFields : Form → List ℕ → Codes → Codes → Type 0
-  TwoFields form t one two =
-      (n m : ℕ) × (field form t ≡ Field one n) × (0 < run isBlank (drop n t)) ×
-      (field form (afterBlanks (drop n t)) ≡ Field two m) × (endsField (drop m (afterBlanks (drop n t))) ≡ true)
-
-  -- "At least one blank or tab stands after `t`."
-  abbrev Translates : List ℕ → Codes → Codes → Type 0
-  Translates t one two = (xs : List ℕ) × (t ≡ byte "t" ∷ xs) × (0 < run isBlank xs) × (TwoFields Characters (afterBlanks xs) one two)
-
-  -- "`t` with two single characters, or with two ranges; two numbers."
-  abbrev IsMapping : List ℕ → Code → Code → Code → Type 0
-  IsMapping t first last firstNew =
-      ((last ≡ first) × (Translates t (One first) (One firstNew))) ⊎
-      ((lastNew : Code) × (Translates t (Range first last) (Range firstNew lastNew)) × (goodRanges first last firstNew lastNew ≡ true)) ⊎
-      ((last ≡ first) × (TwoFields Numbers t (One first) (One firstNew)))
-
-  -- Two ranges, and "range sizes differ, or first above last".
-  abbrev IsBadRanges : List ℕ → Type 0
-  IsBadRanges t =
-      (first last firstNew lastNew : Code) × (Translates t (Range first last) (Range firstNew lastNew)) ×
-      ((leZ (first .0) (last .0) ≡ false) ⊎
-      (leZ (firstNew .0) (lastNew .0) ≡ false) ⊎
-      (natAbs (last .0 -ℤ first .0) ≡ natAbs (lastNew .0 -ℤ firstNew .0) → ⊥))
 
   -- "Then 11 to 14 as met": `Reaches s stage n ls` says that the lines before ls are good, and which stage and how many commands they come to (crates/flc/proofs/TableLaws.antt).
 
