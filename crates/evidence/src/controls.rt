@@ -13,24 +13,21 @@ fn code(z: i32) {
     signed(z);
 }
 
+// A code of a list, as far as the list has it.
+fn code_at(list: &[i32], i: usize) {
+    if i < list.len() {
+        code(list[i]);
+    }
+}
+
 // The i-th entry of the lists: stage, first and last code, first new code.
 fn entry(stages: &[usize], firsts: &[i32], lasts: &[i32], news: &[i32], i: usize) {
-    if stages.len() <= i {
-        return;
+    if i < stages.len() {
+        named(b"; ", stages[i]);
     }
-    if firsts.len() <= i {
-        return;
-    }
-    if lasts.len() <= i {
-        return;
-    }
-    if news.len() <= i {
-        return;
-    }
-    named(b"; ", stages[i]);
-    code(firsts[i]);
-    code(lasts[i]);
-    code(news[i]);
+    code_at(firsts, i);
+    code_at(lasts, i);
+    code_at(news, i);
 }
 
 fn entries(stages: &[usize], firsts: &[i32], lasts: &[i32], news: &[i32], n: usize) {
@@ -39,6 +36,11 @@ fn entries(stages: &[usize], firsts: &[i32], lasts: &[i32], news: &[i32], n: usi
         entry(stages, firsts, lasts, news, i);
         i += 1;
     }
+}
+
+fn counts(commands: usize, stages: usize) {
+    named(b"commands ", commands);
+    named(b", stages ", stages);
 }
 
 // The counts of a control file, with as many of its first entries as are asked for.
@@ -52,8 +54,7 @@ pub(crate) fn show_control(control: &[u8], most: usize) {
             commands,
             stages: k,
         } => {
-            named(b"commands ", commands);
-            named(b", stages ", k);
+            counts(commands, k);
             entries(
                 &stages,
                 &firsts,
@@ -76,10 +77,7 @@ pub(crate) fn show_short(control: &[u8]) {
         ControlAnswer::Read {
             commands,
             stages: k,
-        } => {
-            named(b"commands ", commands);
-            named(b", stages ", k);
-        }
+        } => counts(commands, k),
         ControlAnswer::Refused(r) => refused(r.number, r.place),
     }
 }

@@ -48,7 +48,8 @@ pub(crate) fn ask(font: &[u8], size: usize, count: usize, code: Code, place: usi
     }
 }
 
-fn show(e: Entry) {
+// An entry.
+pub(crate) fn show(e: Entry) {
     let code = e.code;
     text(b"code ");
     signed(code.0);

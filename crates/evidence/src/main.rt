@@ -15,14 +15,14 @@ use libc::STDIN_FILENO;
 use lines::Cursor;
 use lines::LineStep;
 use lines::words;
+use printing::heading;
 use printing::text;
 
 // Requests about a font; the answer begins with the font's name, or with the request.
 fn about_font(line: &[u8], font: &[u8]) {
     let arguments = behind(line);
     if words::starts_with(line, b"read ") {
-        text(word_of(arguments));
-        text(b": ");
+        heading(word_of(arguments));
         fonts::show_font(font);
     }
     if words::starts_with(line, b"look ") {
@@ -38,8 +38,7 @@ fn about_font(line: &[u8], font: &[u8]) {
         );
     }
     if words::starts_with(line, b"index ") {
-        text(line);
-        text(b": ");
+        heading(line);
         indexes::show_index(font, behind(arguments));
     }
 }
@@ -47,18 +46,15 @@ fn about_font(line: &[u8], font: &[u8]) {
 // Requests about a control file; the answer begins with the request.
 fn about_control(line: &[u8], control: &[u8]) {
     if words::starts_with(line, b"control ") {
-        text(line);
-        text(b": ");
+        heading(line);
         controls::show_control(control, 8);
     }
     if words::starts_with(line, b"short ") {
-        text(line);
-        text(b": ");
+        heading(line);
         controls::show_short(control);
     }
     if words::starts_with(line, b"map ") {
-        text(line);
-        text(b": ");
+        heading(line);
         controls::show_map(control, word_of(behind(behind(line))));
     }
 }
@@ -66,8 +62,7 @@ fn about_control(line: &[u8], control: &[u8]) {
 // A request for a drawing; the answer begins with the request, of which 64 bytes are shown.
 fn about_drawing(line: &[u8], font: &[u8]) {
     if words::starts_with(line, b"draw ") {
-        text(shortened(line));
-        text(b": ");
+        heading(shortened(line));
         drawings::show_drawing(font, behind(behind(line)));
     }
 }
@@ -75,8 +70,7 @@ fn about_drawing(line: &[u8], font: &[u8]) {
 // A request for a join; the answer begins with the request, of which 64 bytes are shown.
 fn about_join(line: &[u8]) {
     if words::starts_with(line, b"join ") {
-        text(shortened(line));
-        text(b": ");
+        heading(shortened(line));
         joins::show_join(behind(line));
     }
 }

@@ -9,6 +9,19 @@ pub(crate) fn number(n: usize) {
     io::print_decimal(STDOUT_FILENO, n as u64);
 }
 
+// A text, and behind it a colon and a blank.
+pub(crate) fn heading(t: &[u8]) {
+    text(t);
+    text(b": ");
+}
+
+// Bytes in backquotes, behind a comma.
+pub(crate) fn quoted(t: &[u8]) {
+    text(b", `");
+    text(t);
+    text(b"`");
+}
+
 // A number behind a text.
 pub(crate) fn named(name: &[u8], n: usize) {
     text(name);
