@@ -1,6 +1,8 @@
 // What is printed about a font: what it says, the character that is used for a code, and a row.
+use crate::asking::behind;
 use crate::asking::code_of;
 use crate::asking::row_of;
+use crate::asking::word_of;
 use crate::indexes::ask;
 use crate::indexes::show;
 use crate::printing::heading;
@@ -8,7 +10,7 @@ use crate::printing::named;
 use crate::printing::number;
 use crate::printing::quoted;
 use crate::printing::refused;
-use crate::printing::signed;
+use crate::printing::signed_named;
 use crate::printing::text;
 use ground::limits;
 use header::Given;
@@ -50,8 +52,7 @@ fn required(h: Header) {
     named(b", height ", h.height);
     named(b", baseline ", h.baseline);
     named(b", max_length ", h.max_length);
-    text(b", old_layout ");
-    signed(h.old_layout);
+    signed_named(b", old_layout ", h.old_layout);
     named(b", comment_lines ", h.comment_lines);
 }
 
@@ -86,8 +87,10 @@ pub(crate) fn show_font(font: &[u8]) {
     }
 }
 
-// The character that is used for a code.
-pub(crate) fn show_entry(font: &[u8], word: &[u8]) {
+// The character that is used for a code, behind the font's name; the code is the second word.
+pub(crate) fn show_entry(font: &[u8], words: &[u8]) {
+    let word = word_of(behind(words));
+    text(word_of(words));
     text(b" ");
     heading(word);
     match wattleslate::look_up(font, code_of(word)) {
@@ -97,18 +100,27 @@ pub(crate) fn show_entry(font: &[u8], word: &[u8]) {
     }
 }
 
-// A row of the character that is used for a code.
-pub(crate) fn show_row(font: &[u8], word: &[u8], row: &[u8]) {
-    text(b" ");
-    text(word);
-    text(b" ");
-    heading(row);
-    match wattleslate::row_refusal(font, code_of(word), row_of(row)) {
+// Where a row is and its bytes, or its refusal.
+fn show_part(font: &[u8], code: Code, row: usize) {
+    match wattleslate::row_refusal(font, code, row) {
         RowRefusal::NotRefused { place, width } => {
             named(b"at ", place);
             named(b", width ", width);
-            quoted(wattleslate::row(font, code_of(word), row_of(row)));
+            quoted(wattleslate::row(font, code, row));
         }
         RowRefusal::Refused(r) => refused(r.number, r.place),
     }
+}
+
+// A row of the character that is used for a code, behind the words that ask for it: a font's name, the code and the row's number.
+pub(crate) fn show_row(font: &[u8], words: &[u8]) {
+    let second = behind(words);
+    let code = word_of(second);
+    let row = word_of(behind(second));
+    text(word_of(words));
+    text(b" ");
+    text(code);
+    text(b" ");
+    heading(row);
+    show_part(font, code_of(code), row_of(row));
 }

@@ -26,16 +26,10 @@ fn about_font(line: &[u8], font: &[u8]) {
         fonts::show_font(font);
     }
     if words::starts_with(line, b"look ") {
-        text(word_of(arguments));
-        fonts::show_entry(font, word_of(behind(arguments)));
+        fonts::show_entry(font, arguments);
     }
     if words::starts_with(line, b"row ") {
-        text(word_of(arguments));
-        fonts::show_row(
-            font,
-            word_of(behind(arguments)),
-            word_of(behind(behind(arguments))),
-        );
+        fonts::show_row(font, arguments);
     }
     if words::starts_with(line, b"index ") {
         heading(line);
@@ -47,7 +41,7 @@ fn about_font(line: &[u8], font: &[u8]) {
 fn about_control(line: &[u8], control: &[u8]) {
     if words::starts_with(line, b"control ") {
         heading(line);
-        controls::show_control(control, 8);
+        controls::show_control(control);
     }
     if words::starts_with(line, b"short ") {
         heading(line);
@@ -79,9 +73,10 @@ fn about_join(line: &[u8]) {
 fn request(line: &[u8]) {
     let mut buffer = [0u8; 65537];
     let n = load(word_of(behind(line)), &mut buffer);
-    about_font(line, &buffer[..n]);
-    about_control(line, &buffer[..n]);
-    about_drawing(line, &buffer[..n]);
+    let file = &buffer[..n];
+    about_font(line, file);
+    about_control(line, file);
+    about_drawing(line, file);
     about_join(line);
     text(b"\n");
 }

@@ -38,6 +38,12 @@ pub(crate) fn signed(z: i32) {
     io::print_decimal(STDOUT_FILENO, w as u64);
 }
 
+// The same of a code or of another number with a sign.
+pub(crate) fn signed_named(name: &[u8], z: i32) {
+    text(name);
+    signed(z);
+}
+
 pub(crate) fn refused(number: usize, place: usize) {
     named(b"refused ", number);
     named(b" at ", place);
