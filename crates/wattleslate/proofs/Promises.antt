@@ -24,7 +24,7 @@ use Rattle.subchars.specs.declared.Direction.{Direction}
 use Rattle.subchars.specs.declared.Layout.{Layout}
 use Rattle.subchars.specs.declared.Layout.the-variants.{FullWidth, Fitting, Smushing}
 use Rattle.subchars.specs.declared.Smushing.{Smushing as Kind}
-use Rattle.subchars.specs.declared.Smushing.the-variants.{Controlled}
+use Rattle.subchars.specs.declared.Smushing.the-variants.{Universal, Controlled}
 use Rattle.subchars.specs.declared.Mode.{Mode}
 use Rattle.subchars.specs.declared.Rule.{Rule}
 use Rattle.subchars.specs.declared.Joint.the-variants.{ByRule}
@@ -461,7 +461,7 @@ rule-of-the-set-joins : (set h l r : ℕ) (rule : Rule) (x : ℕ) → inSet set 
 rule-of-the-set-joins = rules.controlled-by
 
 -- "Universal joins every pair."
-universal-joins-every-pair : (direction : Direction) (hardblank : SubCharacter) (l r : ℕ) → joins (joints.universally direction hardblank) l r ≡ true
+universal-joins-every-pair : (direction : Direction) (hardblank : SubCharacter) (l r : ℕ) → joins (record { layout = Smushing Universal; direction = direction; hardblank = hardblank }) l r ≡ true
 universal-joins-every-pair = joints.universal-joins
 
 -- ================================================================ demand 3
