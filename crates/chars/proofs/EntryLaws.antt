@@ -53,6 +53,6 @@ character-sound f size n c (l ∷ ls) more h s = go (characterRows f size (l ∷
 
 pub listing-sound : (f : Format) (size : ℕ) (cs : List ℕ) (n : ℕ) (ls : List TextLine) → n + length cs ≤ maxCharacters → SoundListing f n ls (listing f size cs n ls)
 listing-sound f size cs n ls h =
-    listing-all f size (SoundListing f) (λ m ks i. nothing f m ks finished i) (λ m l ks k i a b. nothing f m (l ∷ ks) (stopped (refusal k (l .start))) i)
+    listing-all f size (SoundListing f) (λ m ks i. nothing f m ks finished i) (λ m l ks k i. nothing f m (l ∷ ks) (stopped (refusal k (l .start))) i)
     (λ m l ks x s. record { few = s .few; rows = each-further f l ks (x .entries) (s .rows) })
     (λ m c ks more i s. character-sound f size m c ks more i (record { few = s .few; rows = each-dropped f (lineCount f) ks (more .entries) (s .rows) })) cs n ls h

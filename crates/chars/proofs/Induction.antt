@@ -24,7 +24,7 @@ use Rattle.chars.specs.Chars.{finished, stopped, Listing, ends, characte
 -- `Holds n ls x`: of the characters x on the lines ls, after n others.
 module _ (f : Format) (size : ℕ) (Holds : ℕ → List TextLine → Listing → Type 0)
     (at-end : (n : ℕ) (ls : List TextLine) → n ≤ maxCharacters → Holds n ls (ends finished))
-    (at-tag : (n : ℕ) (l : TextLine) (ls : List TextLine) (number : ℕ) → n ≤ maxCharacters → badCodeTag ≤ number → number ≤ tooManyCharacters → Holds n (l ∷ ls) (ends (stopped (refusal number (l .start)))))
+    (at-tag : (n : ℕ) (l : TextLine) (ls : List TextLine) (number : ℕ) → n ≤ maxCharacters → Holds n (l ∷ ls) (ends (stopped (refusal number (l .start)))))
     (further : (n : ℕ) (l : TextLine) (ls : List TextLine) (x : Listing) → Holds n ls x → Holds n (l ∷ ls) x)
     (character : (n : ℕ) (c : Code) (ls : List TextLine) (more : Listing) → n < maxCharacters → Holds (suc n) (drop (lineCount f) ls) more → Holds n ls (characterThen f size c ls more))
   where
@@ -40,12 +40,12 @@ module _ (f : Format) (size : ℕ) (Holds : ℕ → List TextLine → Listing �
         room c true e more =
             let i = ltb-true n maxCharacters e in
             further n l ls (characterThen f size c ls (taggedFrom f size (lineCount f) (suc n) ls)) (character n c ls (taggedFrom f size (lineCount f) (suc n) ls) i (more i))
-        room c false e more = at-tag n l ls tooManyCharacters h (omega arith) (omega arith)
+        room c false e more = at-tag n l ls tooManyCharacters h
 
         go : (b : Bool) (t : TagStep) → (suc n ≤ maxCharacters → Holds (suc n) (drop (lineCount f) ls) (taggedFrom f size (lineCount f) (suc n) ls)) →
             Holds n (l ∷ ls) (cond b (ends finished) (tagged t f size (l .start) n ls (taggedFrom f size (lineCount f) (suc n) ls)))
         go true t more = at-end n (l ∷ ls) h
-        go false BadTag more = at-tag n l ls badCodeTag h (omega arith) (omega arith)
+        go false BadTag more = at-tag n l ls badCodeTag h
         go false (Tag c) more = room c (ltb n maxCharacters) refl more
 
     pub listing-all : (cs : List ℕ) (n : ℕ) (ls : List TextLine) → n + length cs ≤ maxCharacters → Holds n ls (listing f size cs n ls)

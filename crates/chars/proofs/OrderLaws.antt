@@ -3,7 +3,7 @@
 use mathlib.Core.Path.{_≡_, refl, sym, ap, _∙_}
 use mathlib.Core.Bool.{Bool, true, false, cond}
 use mathlib.Core.List.{List, [], _∷_, map}
-use Prim.Native.Nat.{ℕ, zero, suc, _+_, _≤_}
+use Prim.Native.Nat.{ℕ, zero, suc}
 use lib.Dec.{ltb}
 use lib.IntN.{pos}
 use lib.ListN.{length, drop, take}
@@ -20,7 +20,6 @@ use Rattle.chars.specs.declared.TagStep.{TagStep}
 use Rattle.chars.specs.declared.TagStep.the-variants.{Tag, BadTag}
 use Rattle.chars.specs.Codes.{code, tagOf}
 use Rattle.chars.specs.Chars.{finished, stopped, Listing, ends, listed, characterThen, blankLines, tagged, taggedFrom, listing}
-use Rattle.chars.proofs.Induction.{listing-all}
 
 -- "In file order": a character has all its rows from its first row line on, and the next one stands somewhere behind them.
 pub data InOrder (f : Format) : List TextLine → List Entry → Type 0 where
@@ -28,21 +27,6 @@ pub data InOrder (f : Format) : List TextLine → List Entry → Type 0 where
   here : {l : TextLine} {ls : List TextLine} {e : Entry} {es : List Entry} →
       e .start ≡ l .start → AllRead f (e .width) (lineCount f) (l ∷ ls) → InOrder f (drop (lineCount f) (l ∷ ls)) es → InOrder f (l ∷ ls) (e ∷ es)
   further : {l : TextLine} {ls : List TextLine} {es : List Entry} → InOrder f ls es → InOrder f (l ∷ ls) es
-
-character-ordered :
-    (f : Format) (size : ℕ) (c : Code) (ls : List TextLine) (more : Listing) →
-    InOrder f (drop (lineCount f) ls) (more .entries) → InOrder f ls (characterThen f size c ls more .entries)
-character-ordered f size c [] more o = none
-character-ordered f size c (l ∷ ls) more o = go (characterRows f size (l ∷ ls)) refl
-  where
-    go : (v : Rows) → characterRows f size (l ∷ ls) ≡ v → InOrder f (l ∷ ls) (listed v c (l .start) more .entries)
-    go (read w) e = here refl (character-read f size w (l ∷ ls) e) o
-    go (refused r) e = none
-
-pub listing-ordered : (f : Format) (size : ℕ) (cs : List ℕ) (n : ℕ) (ls : List TextLine) → n + length cs ≤ maxCharacters → InOrder f ls (listing f size cs n ls .entries)
-listing-ordered f size cs n ls h =
-    listing-all f size (λ m ks x. InOrder f ks (x .entries)) (λ m ks i. none) (λ m l ks k i a b. none) (λ m l ks x o. further o)
-    (λ m c ks more i o. character-ordered f size c ks more o) cs n ls h
 
 -- The characters of lines that are read to the end: "codes 32 to 126, then 196, 214, 220, 228, 246, 252, 223; then tagged characters to the end". Of the
 -- given codes each is the next character's, whose rows are next; behind them a character's rows follow a tag line, whose first word is its code.
@@ -104,6 +88,12 @@ module _ (f : Format) (size : ℕ) where
   listing-coded (c ∷ cs) n ls e =
       let more = listing f size cs (suc n) (drop (lineCount f) ls) in
       after-required c cs more ls (characterThen f size (code (pos c)) ls more .entries) (listing-coded cs (suc n) (drop (lineCount f) ls)) (read-then (code (pos c)) ls more e)
+
+-- They stand in file order.
+pub coded-ordered : (f : Format) (cs : List ℕ) (ls : List TextLine) (es : List Entry) → Coded f cs ls es → InOrder f ls es
+coded-ordered f (c ∷ cs) (l ∷ ls) (e ∷ es) (required a b r s) = here b r (coded-ordered f cs (drop (lineCount f) (l ∷ ls)) es s)
+coded-ordered f [] (t ∷ l ∷ ls) (e ∷ es) (tag p b r s) = further (here b r (coded-ordered f [] (drop (lineCount f) (l ∷ ls)) es s))
+coded-ordered f [] ls [] (end b) = none
 
 -- The codes of the first characters are the required ones, in order.
 pub coded-first : (f : Format) (cs : List ℕ) (ls : List TextLine) (es : List Entry) → Coded f cs ls es → map (λ (e : Entry). e .code) (take (length cs) es) ≡ map (λ (c : ℕ). code (pos c)) cs

@@ -1,15 +1,15 @@
--- A font's characters are stopped exactly at the line where document 01's table refuses them: 5 and 6 by a character's rows, 7 and 8 by a tag line.
+-- A font's characters are stopped only at the line where document 01's table refuses them: 5 and 6 by a character's rows, 7 and 8 by a tag line.
 -- Assumes nothing.
 use mathlib.Core.Path.{_≡_, refl, sym, ap, _∙_, subst}
 use mathlib.Core.Bool.{Bool, true, false, cond, true≢false}
 use mathlib.Core.List.{List, [], _∷_}
-use mathlib.Core.Logic.{_↔_}
+use mathlib.Core.Logic.{_↔_, _⊎_, inl, inr, ⊎-elim}
 use Prim.Native.Nat.{ℕ, zero, suc, _≤_, _<_}
 use native.Mathlib.Omega.{arith}
 use lib.Dec.{ltb}
 use lib.IntN.{ℤ, pos, negsuc}
 use lib.ListN.{drop}
-use borrow.Author.Tests.{lt-ltb, le-ltb, ltb-true, ltb-false, eqb-true}
+use borrow.Author.Tests.{lt-ltb, ltb-true, ltb-false, eqb-true}
 use Rattle.ground.specs.Refusals.{refusal, missingLine, badCodeTag, tooManyCharacters}
 use Rattle.ground.specs.declared.refusals.Refusal.{Refusal}
 use Rattle.ground.proofs.Tests.{clash}
@@ -23,7 +23,7 @@ use Rattle.lines.specs.declared.numbers.CodeNumber.the-variants.{Named, NotCode
 use Rattle.lines.proofs.StartLaws.{Starting, start-first, start-rest, start-dropped}
 use Rattle.rows.specs.declared.Format.{Format}
 use Rattle.rows.specs.Rows.{Rows, read, refused, characterRows, lineCount}
-use Rattle.rows.proofs.RefusalLaws.{CharacterStops, character-exactly, character-inside}
+use Rattle.rows.proofs.RefusalLaws.{CharacterStops, only-character, character-inside}
 use Rattle.chars.specs.declared.TagStep.{TagStep}
 use Rattle.chars.specs.declared.TagStep.the-variants.{Tag, BadTag}
 use Rattle.chars.specs.Codes.{code, sameNumber, sameCode, noCode, tagCode, tagOf}
@@ -34,6 +34,14 @@ use Rattle.chars.proofs.ListingLaws.{tag-skip}
 pub data BadCode (t : List ℕ) : Type 0 where
   no-number : codeNumber (firstWord t) ≡ NotCode → BadCode t
   minus-one : codeNumber (firstWord t) ≡ Named noCode → BadCode t
+
+-- the same in one sentence
+pub code-exactly : (t : List ℕ) → BadCode t ↔ ((codeNumber (firstWord t) ≡ NotCode) ⊎ (codeNumber (firstWord t) ≡ Named noCode))
+code-exactly t = (to, λ w. ⊎-elim no-number minus-one w)
+  where
+    to : BadCode t → (codeNumber (firstWord t) ≡ NotCode) ⊎ (codeNumber (firstWord t) ≡ Named noCode)
+    to (no-number e) = inl e
+    to (minus-one e) = inr e
 
 is-minus-one : (z : ℤ) → sameNumber z (negsuc 0) ≡ true → z ≡ negsuc 0
 is-minus-one (pos n) e = absurd (true≢false (sym e))
@@ -78,12 +86,12 @@ pub data CharactersStop (f : Format) (size : ℕ) : List ℕ → ℕ → List Te
       characterRows f size ls ≡ read w → CharactersStop f size [] (suc n) (drop (lineCount f) ls) r → CharactersStop f size [] n (l ∷ ls) r
 
 -- How characters end, by the rows of the first and how the others end.
-abbrev endingBy : Rows → Ending → Ending
+abbrev pub endingBy : Rows → Ending → Ending
 endingBy (read w) more = more
 endingBy (refused r) more = stopped r
 
 module _ (f : Format) (size : ℕ) where
-  ending-is : (c : Code) (ls : List TextLine) (more : Listing) → characterThen f size c ls more .ending ≡ endingBy (characterRows f size ls) (more .ending)
+  pub ending-is : (c : Code) (ls : List TextLine) (more : Listing) → characterThen f size c ls more .ending ≡ endingBy (characterRows f size ls) (more .ending)
   unfolding characterRows
   ending-is c [] more = refl
   ending-is c (l ∷ ls) more = go (characterRows f size (l ∷ ls))
@@ -94,38 +102,20 @@ module _ (f : Format) (size : ℕ) where
 
   -- the lines from a tag line on
   module _ (n : ℕ) (l : TextLine) (ls : List TextLine) where
-    abbrev others : Listing
+    abbrev pub others : Listing
     others = taggedFrom f size (lineCount f) (suc n) ls
 
-    tag-due : blankLines (l ∷ ls) ≡ false → taggedFrom f size 0 n (l ∷ ls) ≡ tagged (tagOf (l .text)) f size (l .start) n ls others
+    pub tag-due : blankLines (l ∷ ls) ≡ false → taggedFrom f size 0 n (l ∷ ls) ≡ tagged (tagOf (l .text)) f size (l .start) n ls others
     unfolding taggedFrom
     tag-due m = ap (λ (b : Bool). cond b (ends finished) (tagged (tagOf (l .text)) f size (l .start) n ls others)) m
 
-    tag-named : (t : TagLine l ls) → taggedFrom f size 0 n (l ∷ ls) ≡ tagged (Tag (t .code)) f size (l .start) n ls others
+    pub tag-named : (t : TagLine l ls) → taggedFrom f size 0 n (l ∷ ls) ≡ tagged (Tag (t .code)) f size (l .start) n ls others
     tag-named t = tag-due (t .more) ∙ ap (λ (x : TagStep). tagged x f size (l .start) n ls others) (t .names)
 
-    tag-room : (t : TagLine l ls) → n < maxCharacters → taggedFrom f size 0 n (l ∷ ls) .ending ≡ endingBy (characterRows f size ls) (taggedFrom f size 0 (suc n) (drop (lineCount f) ls) .ending)
+    pub tag-room : (t : TagLine l ls) → n < maxCharacters → taggedFrom f size 0 n (l ∷ ls) .ending ≡ endingBy (characterRows f size ls) (taggedFrom f size 0 (suc n) (drop (lineCount f) ls) .ending)
     tag-room t h =
         ap (λ (x : Listing). x .ending) (tag-named t ∙ ap (λ (b : Bool). cond b (characterThen f size (t .code) ls others) (ends (stopped (refusal tooManyCharacters (l .start))))) (lt-ltb n maxCharacters h)) ∙
         ending-is (t .code) ls others ∙ ap (λ (x : Listing). endingBy (characterRows f size ls) (x .ending)) (tag-skip f size (lineCount f) (suc n) ls)
-
-  characters-stopped : (cs : List ℕ) (n : ℕ) (ls : List TextLine) (r : Refusal) → CharactersStop f size cs n ls r → listing f size cs n ls .ending ≡ stopped r
-  unfolding listing
-  characters-stopped (c ∷ cs) n ls r (in-required s) =
-      let more = listing f size cs (suc n) (drop (lineCount f) ls) in
-      ending-is (code (pos c)) ls more ∙ ap (λ (v : Rows). endingBy v (more .ending)) (character-exactly f size ls r .1 s)
-  characters-stopped (c ∷ cs) n ls r (past-required w e s) =
-      let more = listing f size cs (suc n) (drop (lineCount f) ls) in
-      ending-is (code (pos c)) ls more ∙ ap (λ (v : Rows). endingBy v (more .ending)) e ∙ characters-stopped cs (suc n) (drop (lineCount f) ls) r s
-  characters-stopped [] n (l ∷ ls) _ (bad-tag m b) =
-      ap (λ (x : Listing). x .ending) (tag-due n l ls m ∙ ap (λ (x : TagStep). tagged x f size (l .start) n ls (others n l ls)) (bad-exactly (l .text) .1 b))
-  characters-stopped [] n (l ∷ ls) _ (too-many t h) =
-      ap (λ (x : Listing). x .ending)
-      (tag-named n l ls t ∙ ap (λ (b : Bool). cond b (characterThen f size (t .code) ls (others n l ls)) (ends (stopped (refusal tooManyCharacters (l .start))))) (le-ltb n maxCharacters h))
-  characters-stopped [] n (l ∷ ls) r (in-tagged t h s) =
-      tag-room n l ls t h ∙ ap (λ (v : Rows). endingBy v (taggedFrom f size 0 (suc n) (drop (lineCount f) ls) .ending)) (character-exactly f size ls r .1 s)
-  characters-stopped [] n (l ∷ ls) r (past-tagged w t h e s) =
-      tag-room n l ls t h ∙ ap (λ (v : Rows). endingBy v (taggedFrom f size 0 (suc n) (drop (lineCount f) ls) .ending)) e ∙ characters-stopped [] (suc n) (drop (lineCount f) ls) r s
 
   only-tagged : (k n : ℕ) (ls : List TextLine) (r : Refusal) → taggedFrom f size k n ls .ending ≡ stopped r → CharactersStop f size [] n (drop k ls) r
   unfolding taggedFrom
@@ -137,7 +127,7 @@ module _ (f : Format) (size : ℕ) where
       rows : TagLine l ls → n < maxCharacters → (v : Rows) → characterRows f size ls ≡ v → endingBy v (others n l ls .ending) ≡ stopped r →
           (others n l ls .ending ≡ stopped r → CharactersStop f size [] (suc n) (drop (lineCount f) ls) r) → CharactersStop f size [] n (l ∷ ls) r
       rows t h (read w) p q more = past-tagged w t h p (more q)
-      rows t h (refused z) p q more = let d : z ≡ r = cc in in-tagged t h (character-exactly f size ls r .0 (p ∙ ap refused d))
+      rows t h (refused z) p q more = let d : z ≡ r = cc in in-tagged t h (only-character f size ls r (p ∙ ap refused d))
 
       room : TagLine l ls → (c : Code) (b : Bool) → ltb n maxCharacters ≡ b → cond b (characterThen f size c ls (others n l ls)) (ends (stopped (refusal tooManyCharacters (l .start)))) .ending ≡ stopped r →
           (others n l ls .ending ≡ stopped r → CharactersStop f size [] (suc n) (drop (lineCount f) ls) r) → CharactersStop f size [] n (l ∷ ls) r
@@ -154,7 +144,8 @@ module _ (f : Format) (size : ℕ) where
           subst (CharactersStop f size [] n (l ∷ ls)) d (bad-tag {l = l} m (bad-exactly (l .text) .0 p))
       go false m (Tag c) p q more = room (record { more = m; code = c; names = p }) c (ltb n maxCharacters) refl q more
 
-  only-characters : (cs : List ℕ) (n : ℕ) (ls : List TextLine) (r : Refusal) → listing f size cs n ls .ending ≡ stopped r → CharactersStop f size cs n ls r
+  -- 5 to 8: characters are stopped only so
+  pub only-characters : (cs : List ℕ) (n : ℕ) (ls : List TextLine) (r : Refusal) → listing f size cs n ls .ending ≡ stopped r → CharactersStop f size cs n ls r
   unfolding listing
   only-characters [] n ls r e = only-tagged 0 n ls r e
   only-characters (c ∷ cs) n ls r e =
@@ -166,11 +157,7 @@ module _ (f : Format) (size : ℕ) where
       go : (v : Rows) → characterRows f size ls ≡ v → endingBy v (more .ending) ≡ stopped r →
           (more .ending ≡ stopped r → CharactersStop f size cs (suc n) (drop (lineCount f) ls) r) → CharactersStop f size (c ∷ cs) n ls r
       go (read w) p q further = past-required w p (further q)
-      go (refused z) p q further = let d : z ≡ r = cc in in-required (character-exactly f size ls r .0 (p ∙ ap refused d))
-
-  -- 5 to 8: characters are stopped exactly so
-  pub characters-exactly : (cs : List ℕ) (n : ℕ) (ls : List TextLine) (r : Refusal) → listing f size cs n ls .ending ≡ stopped r ↔ CharactersStop f size cs n ls r
-  characters-exactly cs n ls r = (only-characters cs n ls r, characters-stopped cs n ls r)
+      go (refused z) p q further = let d : z ≡ r = cc in in-required (only-character f size ls r (p ∙ ap refused d))
 
   -- by no other number, at a place within the font or at its end
   pub characters-inside : (cs : List ℕ) (n : ℕ) (ls : List TextLine) (r : Refusal) → Starting size ls → CharactersStop f size cs n ls r →

@@ -3,14 +3,14 @@
 use mathlib.Core.Path.{_≡_, refl, sym, ap, _∙_, subst}
 use mathlib.Core.Bool.{Bool, true, false, cond, _&&_}
 use mathlib.Core.List.{List, [], _∷_}
-use mathlib.Core.Logic.{_↔_}
+use mathlib.Core.Logic.{_↔_, _⊎_, inl, inr, ⊎-elim}
 use Prim.Native.Nat.{ℕ, _<_}
 use lib.Dec.{eqb, ltb}
 use lib.ListN.{drop}
 use lib.IntN.{natAbs, _-ℤ_}
 use lib.Signed.{leZ}
 use borrow.Author.Tests.{lt-ltb, ltb-true, eqb-true, eqb-false, ne-eqb}
-use Rattle.ground.specs.Text.{byte}
+use Rattle.ground.specs.Text.{byte, bytes, among}
 use Rattle.ground.specs.Runs.{run, all}
 use Rattle.ground.proofs.Tests.{and-left-false, and-right-false, clash}
 use Rattle.subchars.specs.declared.Code.{Code}
@@ -64,20 +64,16 @@ module _ (a b c d : Code) where
 
 -- Two fields at the start of a text: "at least one blank or tab stands .. between the two fields; after the second only the line end, a blank or a tab
 -- may follow".
-pub record TwoFields (form : Form) (t : List ℕ) (one two : Codes) : Type 0 where
-  pub firstLength : ℕ
-  pub first : field form t ≡ Field one firstLength
-  pub between : 0 < run isBlank (drop firstLength t)
-  pub secondLength : ℕ
-  pub second : field form (afterBlanks (drop firstLength t)) ≡ Field two secondLength
-  pub end : endsField (drop secondLength (afterBlanks (drop firstLength t))) ≡ true
+abbrev pub TwoFields : Form → List ℕ → Codes → Codes → Type 0
+TwoFields form t one two =
+    (n m : ℕ) × (field form t ≡ Field one n) × (0 < run isBlank (drop n t)) × (field form (afterBlanks (drop n t)) ≡ Field two m) × (endsField (drop m (afterBlanks (drop n t))) ≡ true)
 
 fields-give : (form : Form) (t : List ℕ) (one two : Codes) → TwoFields form t one two → mappingCommand form t ≡ mapping one two
 unfolding mappingCommand secondField
 fields-give form t one two w =
-    let u = afterBlanks (drop (w .firstLength) t) in
-    ap (λ (x : FieldStep). withFirst form x t) (w .first) ∙ ap (λ (b : Bool). cond b (secondField form one u) NotCommand) (lt-ltb 0 (run isBlank (drop (w .firstLength) t)) (w .between)) ∙
-    ap (λ (x : FieldStep). withSecond one x u) (w .second) ∙ ap (λ (b : Bool). cond b (mapping one two) NotCommand) (w .end)
+    let u = afterBlanks (drop (w .0) t) in
+    ap (λ (x : FieldStep). withFirst form x t) (w .2) ∙ ap (λ (b : Bool). cond b (secondField form one u) NotCommand) (lt-ltb 0 (run isBlank (drop (w .0) t)) (w .3)) ∙
+    ap (λ (x : FieldStep). withSecond one x u) (w .4) ∙ ap (λ (b : Bool). cond b (mapping one two) NotCommand) (w .5)
 
 data Fielded (form : Form) (t : List ℕ) : LineKind → Type 0 where
   fielded : (one two : Codes) → TwoFields form t one two → Fielded form t (mapping one two)
@@ -89,7 +85,7 @@ fields-of form t = from-first (field form t) refl
   where
     ended : (one two : Codes) (n m : ℕ) → field form t ≡ Field one n → 0 < run isBlank (drop n t) → field form (afterBlanks (drop n t)) ≡ Field two m → (b : Bool) →
         endsField (drop m (afterBlanks (drop n t))) ≡ b → Fielded form t (cond b (mapping one two) NotCommand)
-    ended one two n m p h q true e = fielded one two (record { firstLength = n; first = p; between = h; secondLength = m; second = q; end = e })
+    ended one two n m p h q true e = fielded one two (n, m, p, h, q, e)
     ended one two n m p h q false e = unfielded
 
     from-second : (one : Codes) (n : ℕ) → field form t ≡ Field one n → 0 < run isBlank (drop n t) → (r : FieldStep) → field form (afterBlanks (drop n t)) ≡ r →
@@ -168,8 +164,8 @@ form-kind (x ∷ xs) _ (ranges {first = a} {last = b} {firstNew = c} {lastNew = 
     two-fields x xs (Range a b) (Range c d) e h w ∙ ap (λ (y : Bool). cond y (Mapping a b c) BadRanges) g
 form-kind (x ∷ xs) _ (bad-ranges {first = a} {last = b} {firstNew = c} {lastNew = d} e h w g) =
     two-fields x xs (Range a b) (Range c d) e h w ∙ ap (λ (y : Bool). cond y (Mapping a b c) BadRanges) (ranges-exactly a b c d .1 g)
-form-kind [] _ (numbers w) = let z = w .first in clash (cc)
-form-kind (x ∷ xs) _ (numbers {code = code} {new = new} w) = numbers-kind x xs (One code) (w .firstLength) (w .first) ∙ fields-give Numbers (x ∷ xs) (One code) (One new) w
+form-kind [] _ (numbers w) = let z = w .2 in clash (cc)
+form-kind (x ∷ xs) _ (numbers {code = code} {new = new} w) = numbers-kind x xs (One code) (w .0) (w .2) ∙ fields-give Numbers (x ∷ xs) (One code) (One new) w
 
 -- a line has a form, or it is no command
 data Formed (t : List ℕ) : LineKind → Type 0 where
@@ -188,7 +184,7 @@ of-numbers : (t : List ℕ) (kind : LineKind) → Fielded Numbers t kind → For
 of-numbers t _ (fielded (One a) (One b) w) = formed (numbers w)
 of-numbers t _ (fielded (One a) (Range c d) w) = unformed
 of-numbers t _ (fielded (Range a b) (One c) w) = unformed
-of-numbers t _ (fielded (Range a b) (Range c d) w) = absurd (one-number t a b (w .firstLength) (w .first))
+of-numbers t _ (fielded (Range a b) (Range c d) w) = absurd (one-number t a b (w .0) (w .2))
 of-numbers t _ unfielded = unformed
 
 of-characters : (x : ℕ) (xs : List ℕ) (kind : LineKind) → x ≡ byte "t" → 0 < run isBlank xs → Fielded Characters (afterBlanks xs) kind → Formed (x ∷ xs) kind
@@ -241,10 +237,6 @@ module _ (t : List ℕ) where
   pub kind-exactly : (kind : LineKind) → (kind ≡ NotCommand → ⊥) → lineKind t ≡ kind ↔ LineForm t kind
   kind-exactly kind n = (λ e. only-form kind n (lineKind t) e (kind-form t), form-kind t kind)
 
-  -- 12: exactly two ranges, of which "sizes differ, or first above last"
-  pub ranges-refused : lineKind t ≡ BadRanges ↔ LineForm t BadRanges
-  ranges-refused = kind-exactly BadRanges (λ e. clash (cc))
-
   -- 11, "not a command": exactly a line that has none of the forms
   pub no-command : lineKind t ≡ NotCommand ↔ ((kind : LineKind) → LineForm t kind → ⊥)
   no-command = (λ e kind f. form-command t kind f (sym (form-kind t kind f) ∙ e), λ n. go n (lineKind t) (kind-form t))
@@ -252,3 +244,104 @@ module _ (t : List ℕ) where
       go : ((kind : LineKind) → LineForm t kind → ⊥) → (k : LineKind) → Formed t k → k ≡ NotCommand
       go n k (formed f) = absurd (n k f)
       go n _ unformed = refl
+
+-- The forms in one sentence each.
+abbrev pub IsComment : List ℕ → Type 0
+IsComment t = (all isBlank t ≡ true) ⊎ ((xs : List ℕ) × (t ≡ byte "#" ∷ xs))
+
+abbrev pub IsExtended : List ℕ → Type 0
+IsExtended t = (x : ℕ) × (xs : List ℕ) × (t ≡ x ∷ xs) × (among (bytes "hjbug") x ≡ true)
+
+abbrev pub IsStage : List ℕ → Type 0
+IsStage t = (xs : List ℕ) × (t ≡ byte "f" ∷ xs)
+
+abbrev pub Translates : List ℕ → Codes → Codes → Type 0
+Translates t one two = (xs : List ℕ) × (t ≡ byte "t" ∷ xs) × (0 < run isBlank xs) × (TwoFields Characters (afterBlanks xs) one two)
+
+abbrev pub IsMapping : List ℕ → Code → Code → Code → Type 0
+IsMapping t first last firstNew =
+    ((last ≡ first) × (Translates t (One first) (One firstNew))) ⊎
+    ((lastNew : Code) × (Translates t (Range first last) (Range firstNew lastNew)) × (goodRanges first last firstNew lastNew ≡ true)) ⊎
+    ((last ≡ first) × (TwoFields Numbers t (One first) (One firstNew)))
+
+abbrev pub IsBadRanges : List ℕ → Type 0
+IsBadRanges t =
+    (first last firstNew lastNew : Code) × (Translates t (Range first last) (Range firstNew lastNew)) ×
+    ((leZ (first .0) (last .0) ≡ false) ⊎ (leZ (firstNew .0) (lastNew .0) ≡ false) ⊎ (natAbs (last .0 -ℤ first .0) ≡ natAbs (lastNew .0 -ℤ firstNew .0) → ⊥))
+
+to-comment : (t : List ℕ) → LineForm t Comment → IsComment t
+unfolding all
+to-comment _ empty = inl refl
+to-comment (x ∷ xs) (only-blanks e) = inl e
+to-comment (x ∷ xs) (comment e) = inr (xs, ap (λ (y : ℕ). y ∷ xs) e)
+
+from-comment : (t : List ℕ) → IsComment t → LineForm t Comment
+from-comment [] w = empty
+from-comment (x ∷ xs) w = ⊎-elim only-blanks (λ v. subst (λ (u : List ℕ). LineForm u Comment) (sym (v .1)) (comment {xs = v .0} refl)) w
+
+to-extended : (t : List ℕ) → LineForm t Extended → IsExtended t
+unfolding isExtended
+to-extended (x ∷ xs) (extended e) = (x, xs, refl, e)
+
+from-extended : (t : List ℕ) → IsExtended t → LineForm t Extended
+unfolding isExtended
+from-extended t w = subst (λ (u : List ℕ). LineForm u Extended) (sym (w .2)) (extended {xs = w .1} (w .3))
+
+to-stage : (t : List ℕ) → LineForm t NewStage → IsStage t
+to-stage (x ∷ xs) (stage e) = (xs, ap (λ (y : ℕ). y ∷ xs) e)
+
+from-stage : (t : List ℕ) → IsStage t → LineForm t NewStage
+from-stage t w = subst (λ (u : List ℕ). LineForm u NewStage) (sym (w .1)) (stage {xs = w .0} refl)
+
+to-mapping : (t : List ℕ) (a b c : Code) → LineForm t (Mapping a b c) → IsMapping t a b c
+to-mapping (x ∷ xs) a _ c (characters p h w) = inl (refl, (xs, ap (λ (y : ℕ). y ∷ xs) p, h, w))
+to-mapping (x ∷ xs) a b c (ranges {lastNew = d} p h w g) = inr (inl (d, (xs, ap (λ (y : ℕ). y ∷ xs) p, h, w), g))
+to-mapping t a _ c (numbers w) = inr (inr (refl, w))
+
+from-mapping : (t : List ℕ) (a b c : Code) → IsMapping t a b c → LineForm t (Mapping a b c)
+from-mapping t a b c w =
+    ⊎-elim (λ u. subst (λ (z : Code). LineForm t (Mapping a z c)) (sym (u .0)) (begins-t (Mapping a a c) (u .1 .0) (u .1 .1) (characters refl (u .1 .2) (u .1 .3))))
+    (λ v. ⊎-elim (λ u. begins-t (Mapping a b c) (u .1 .0) (u .1 .1) (ranges refl (u .1 .2) (u .1 .3) (u .2))) (λ u. subst (λ (z : Code). LineForm t (Mapping a z c)) (sym (u .0)) (numbers (u .1))) v) w
+  where
+    begins-t : (kind : LineKind) (xs : List ℕ) → t ≡ byte "t" ∷ xs → LineForm (byte "t" ∷ xs) kind → LineForm t kind
+    begins-t kind xs e f = subst (λ (u : List ℕ). LineForm u kind) (sym e) f
+
+to-ranges : (t : List ℕ) → LineForm t BadRanges → IsBadRanges t
+to-ranges (x ∷ xs) (bad-ranges {first = a} {last = b} {firstNew = c} {lastNew = d} p h w g) = (a, b, c, d, (xs, ap (λ (y : ℕ). y ∷ xs) p, h, w), go g)
+  where
+    go : RangesBad a b c d → (leZ (a .0) (b .0) ≡ false) ⊎ (leZ (c .0) (d .0) ≡ false) ⊎ (natAbs (b .0 -ℤ a .0) ≡ natAbs (d .0 -ℤ c .0) → ⊥)
+    go (above e) = inl e
+    go (new-above e) = inr (inl e)
+    go (sizes-differ n) = inr (inr n)
+
+from-ranges : (t : List ℕ) → IsBadRanges t → LineForm t BadRanges
+from-ranges t w =
+    subst (λ (u : List ℕ). LineForm u BadRanges) (sym (w .4 .1)) (bad-ranges refl (w .4 .2) (w .4 .3) (⊎-elim above (λ v. ⊎-elim new-above sizes-differ v) (w .5)))
+
+module _ (t : List ℕ) where
+  pub extended-exactly : lineKind t ≡ Extended ↔ IsExtended t
+  extended-exactly = (λ e. to-extended t (kind-exactly t Extended (λ x. clash (cc)) .0 e), λ w. kind-exactly t Extended (λ x. clash (cc)) .1 (from-extended t w))
+
+  pub stage-exactly : lineKind t ≡ NewStage ↔ IsStage t
+  stage-exactly = (λ e. to-stage t (kind-exactly t NewStage (λ x. clash (cc)) .0 e), λ w. kind-exactly t NewStage (λ x. clash (cc)) .1 (from-stage t w))
+
+  pub mapping-exactly : (a b c : Code) → lineKind t ≡ Mapping a b c ↔ IsMapping t a b c
+  mapping-exactly a b c = (λ e. to-mapping t a b c (kind-exactly t (Mapping a b c) (λ x. clash (cc)) .0 e), λ w. kind-exactly t (Mapping a b c) (λ x. clash (cc)) .1 (from-mapping t a b c w))
+
+  pub bad-ranges-exactly : lineKind t ≡ BadRanges ↔ IsBadRanges t
+  bad-ranges-exactly = (λ e. to-ranges t (kind-exactly t BadRanges (λ x. clash (cc)) .0 e), λ w. kind-exactly t BadRanges (λ x. clash (cc)) .1 (from-ranges t w))
+
+  -- 11: a line of none of these forms
+  pub no-command-exactly : lineKind t ≡ NotCommand ↔ ((IsComment t → ⊥) × (IsExtended t → ⊥) × (IsStage t → ⊥) × ((a b c : Code) → IsMapping t a b c → ⊥) × (IsBadRanges t → ⊥))
+  no-command-exactly = (
+    λ e. let n = no-command t .0 e in (λ w. n Comment (from-comment t w), λ w. n Extended (from-extended t w), λ w. n NewStage (from-stage t w), λ a b c w. n (Mapping a b c) (from-mapping t a b c w), λ w. n BadRanges (from-ranges t w)),
+    λ n. no-command t .1 (none n),
+  )
+    where
+      none : (IsComment t → ⊥) × (IsExtended t → ⊥) × (IsStage t → ⊥) × ((a b c : Code) → IsMapping t a b c → ⊥) × (IsBadRanges t → ⊥) → (kind : LineKind) → LineForm t kind → ⊥
+      none n Comment f = n .0 (to-comment t f)
+      none n Extended f = n .1 (to-extended t f)
+      none n NewStage f = n .2 (to-stage t f)
+      none n (Mapping a b c) f = n .3 a b c (to-mapping t a b c f)
+      none n BadRanges f = n .4 (to-ranges t f)
+      none n NotCommand f = form-command t NotCommand f refl

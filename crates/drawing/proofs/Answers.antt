@@ -4,6 +4,7 @@
 use mathlib.Core.Path.{_≡_, refl, sym, ap, _∙_, subst}
 use mathlib.Core.Bool.{Bool, true, false}
 use mathlib.Core.List.{List}
+use mathlib.Core.Logic.{_↔_, _⊎_, inl, inr, ⊎-elim}
 use Prim.Native.Nat.{ℕ, _+_, _*_, _≤_, _<_}
 use native.Mathlib.Omega.{arith}
 use lib.Dec.{ltb}
@@ -12,7 +13,7 @@ use borrow.Author.Tests.{ltb-true, ltb-false}
 use Rattle.ground.specs.Area.{padded}
 use Rattle.ground.specs.Text.{byte}
 use Rattle.ground.specs.Limits.{maxLineWidth, maxText, minScratch}
-use Rattle.ground.specs.Refusals.{refusal, areaTooSmall, textTooLong, lineTooWide}
+use Rattle.ground.specs.Refusals.{refusal, tooManyCharacters, areaTooSmall, controlFileTooLong, tooManyCommands, textTooLong, lineTooWide}
 use Rattle.ground.specs.declared.refusals.Refusal.{Refusal}
 use Rattle.ground.proofs.Areas.{padded-at}
 use Rattle.join.specs.Join.{Block}
@@ -22,8 +23,10 @@ use Rattle.figure.proofs.Showing.{too-wide, no-room, drawn, shown-byte, shown-l
 use Rattle.header.specs.declared.Header.{Header}
 use Rattle.chars.specs.declared.Entry.{Entry}
 use Rattle.font.specs.Font as font
+use Rattle.font.proofs.ReadingLaws.{font-refusal}
 use Rattle.flc.specs.declared.Command.{Command}
 use Rattle.flc.specs.Control as flc
+use Rattle.flc.proofs.RefusalLaws.{control-refusal}
 use Rattle.figure.specs.declared.DrawAnswer.{DrawAnswer}
 use Rattle.figure.specs.declared.DrawAnswer.the-variants.{Drawn, Refused}
 use Rattle.drawing.specs.Drawing.{modeOf, fontLine, Lined, lined, unlined, linedBy, linedOf, drawLined, linedAnswer, bytesOf}
@@ -122,6 +125,96 @@ module _ (size : ℕ) (s control text : List ℕ) (room : ℕ) where
       by-size : (b : Bool) → ltb size minScratch ≡ b → DrawsTo answer
       by-size true e = as-told _ (scratch-small (ltb-true size minScratch e))
       by-size false e = by-font (ltb-false size minScratch e) (font.reading s) refl
+
+  -- Each answer by itself: what it is given for. The scratch is large enough, and the two files say this.
+  abbrev Read : Header → List Entry → List Command → ℕ → Type 0
+  Read h es cs k = (minScratch ≤ size) × (font.reading s ≡ font.says h es) × (flc.control control ≡ flc.reads cs k)
+
+  abbrev lineFor : Header → List Entry → List Command → ℕ → Block
+  lineFor h es cs k = fontLine s h es cs k text
+
+  abbrev pub files : (h : Header) (es : List Entry) (cs : List Command) (k : ℕ) → Read h es cs k → FilesRead
+  files h es cs k r = record { scratch-enough = r .0; header = h; characters = es; font-read = r .1; commands = cs; stages = k; control-read = r .2 }
+
+  read : (x : FilesRead) → Read (x .header) (x .characters) (x .commands) (x .stages)
+  read x = (x .scratch-enough, x .font-read, x .control-read)
+
+  abbrev FontFor : Refusal → Type 0
+  FontFor r = (minScratch ≤ size) × (font.reading s ≡ font.refuses r)
+
+  abbrev ControlFor : Refusal → Type 0
+  ControlFor r = (minScratch ≤ size) × (h : Header) × (es : List Entry) × (font.reading s ≡ font.says h es) × (flc.control control ≡ flc.refuses r)
+
+  abbrev TooLong : ℕ → Type 0
+  TooLong p = (p ≡ 0) × (h : Header) × (es : List Entry) × (cs : List Command) × (k : ℕ) × (Read h es cs k) × (maxText < length text)
+
+  abbrev TooWide : ℕ → Type 0
+  TooWide p = (p ≡ 0) × (h : Header) × (es : List Entry) × (cs : List Command) × (k : ℕ) × (Read h es cs k) × (length text ≤ maxText) × (maxLineWidth < lineFor h es cs k .width)
+
+  abbrev TooSmall : ℕ → Type 0
+  TooSmall p =
+      (p ≡ 0) ×
+      ((size < minScratch) ⊎
+      ((h : Header) × (es : List Entry) × (cs : List Command) × (k : ℕ) × (Read h es cs k) × (length text ≤ maxText) × (lineFor h es cs k .width ≤ maxLineWidth) ×
+      (room < h .height * (lineFor h es cs k .width + 1))))
+
+  abbrev DrawnAs : ℕ → Type 0
+  DrawnAs w =
+      (h : Header) × (es : List Entry) × (cs : List Command) × (k : ℕ) × (Read h es cs k) × (length text ≤ maxText) × (lineFor h es cs k .width ≤ maxLineWidth) ×
+      (h .height * (lineFor h es cs k .width + 1) ≤ room) × (w ≡ lineFor h es cs k .width)
+
+  abbrev Told : DrawAnswer → Type 0
+  Told (Drawn w) = DrawnAs w
+  Told (Refused r) =
+      (r .number ≤ tooManyCharacters → FontFor r) ×
+      (controlFileTooLong ≤ r .number → r .number ≤ tooManyCommands → ControlFor r) ×
+      (r .number ≡ textTooLong → TooLong (r .place)) ×
+      (r .number ≡ lineTooWide → TooWide (r .place)) ×
+      (r .number ≡ areaTooSmall → TooSmall (r .place))
+
+  told : (a : DrawAnswer) → DrawsTo a → Told a
+  told _ (scratch-small u) = (λ e. absurd (omega arith), λ e f. absurd (omega arith), λ e. absurd (omega arith), λ e. absurd (omega arith), λ e. (refl, inl u))
+  told _ (font-refused u r f) =
+      let b = font-refusal s r f in
+      (λ e. (u, f), λ e g. absurd (omega (arith, b .1)), λ e. absurd (omega (arith, b .1)), λ e. absurd (omega (arith, b .1)), λ e. absurd (omega (arith, b .1)))
+  told _ (control-refused u h es f r c) =
+      let b = control-refusal control r c in
+      (λ e. absurd (omega (arith, b .0)), λ e g. (u, h, es, f, c), λ e. absurd (omega (arith, b .1)), λ e. absurd (omega (arith, b .1)), λ e. absurd (omega (arith, b .0)))
+  told _ (text-too-long x t) =
+      (λ e. absurd (omega arith), λ e f. absurd (omega arith), λ e. (refl, x .header, x .characters, x .commands, x .stages, read x, t), λ e. absurd (omega arith), λ e. absurd (omega arith))
+  told _ (line-too-wide x t w) =
+      (λ e. absurd (omega arith), λ e f. absurd (omega arith), λ e. absurd (omega arith), λ e. (refl, x .header, x .characters, x .commands, x .stages, read x, t, w), λ e. absurd (omega arith))
+  told _ (output-small x t w m) =
+      (λ e. absurd (omega arith), λ e f. absurd (omega arith), λ e. absurd (omega arith), λ e. absurd (omega arith), λ e. (refl, inr (x .header, x .characters, x .commands, x .stages, read x, t, w, m)))
+  told _ (draws x t w m) = (x .header, x .characters, x .commands, x .stages, read x, t, w, m, refl)
+
+  tells : (a : DrawAnswer) → answer ≡ a → Told a
+  tells a e = told a (subst DrawsTo e one-of)
+
+  refused-at : (number p : ℕ) → p ≡ 0 → answer ≡ Refused (refusal number 0) → answer ≡ Refused (refusal number p)
+  refused-at number p e a = subst (λ (q : ℕ). answer ≡ Refused (refusal number q)) (sym e) a
+
+  pub row-font : (r : Refusal) → r .number ≤ tooManyCharacters → answer ≡ Refused r ↔ FontFor r
+  row-font r u = (λ e. tells _ e .0 u, λ w. gives _ (font-refused (w .0) r (w .1)))
+
+  pub row-control : (r : Refusal) → controlFileTooLong ≤ r .number → r .number ≤ tooManyCommands → answer ≡ Refused r ↔ ControlFor r
+  row-control r u v = (λ e. tells _ e .1 u v, λ w. gives _ (control-refused (w .0) (w .1) (w .2) (w .3) r (w .4)))
+
+  pub row-15 : (p : ℕ) → answer ≡ Refused (refusal textTooLong p) ↔ TooLong p
+  row-15 p = (λ e. tells _ e .2 refl, λ w. refused-at textTooLong p (w .0) (gives _ (text-too-long (files (w .1) (w .2) (w .3) (w .4) (w .5)) (w .6))))
+
+  pub row-16 : (p : ℕ) → answer ≡ Refused (refusal lineTooWide p) ↔ TooWide p
+  row-16 p = (λ e. tells _ e .3 refl, λ w. refused-at lineTooWide p (w .0) (gives _ (line-too-wide (files (w .1) (w .2) (w .3) (w .4) (w .5)) (w .6) (w .7))))
+
+  pub row-9 : (p : ℕ) → answer ≡ Refused (refusal areaTooSmall p) ↔ TooSmall p
+  row-9 p = (
+    λ e. tells _ e .4 refl,
+    λ w. refused-at areaTooSmall p (w .0)
+        (⊎-elim (λ u. gives _ (scratch-small u)) (λ v. gives _ (output-small (files (v .0) (v .1) (v .2) (v .3) (v .4)) (v .5) (v .6) (v .7))) (w .1)),
+  )
+
+  pub row-drawn : (w : ℕ) → answer ≡ Drawn w ↔ DrawnAs w
+  row-drawn w = (λ e. tells _ e, λ v. gives _ (draws (files (v .0) (v .1) (v .2) (v .3) (v .4)) (v .5) (v .6) (v .7)) ∙ ap Drawn (sym (v .8)))
 
   -- The output of a text that is drawn.
   module _ (x : FilesRead) (t : length text ≤ maxText) (w : lineBy x .width ≤ maxLineWidth) (m : bytesBy x ≤ room) where

@@ -3,34 +3,25 @@ use crate::asking::code_of;
 use crate::printing::named;
 use crate::printing::refused;
 use crate::printing::signed;
-use crate::printing::text;
+use crate::printing::signed_named;
 use flc::ControlAnswer;
 use wattleslate::MapAnswer;
 
-// A code behind a blank.
-fn code(z: i32) {
-    text(b" ");
-    signed(z);
+// A code of a list, as far as the list has it.
+fn code_at(list: &[i32], i: usize) {
+    if i < list.len() {
+        signed_named(b" ", list[i]);
+    }
 }
 
 // The i-th entry of the lists: stage, first and last code, first new code.
 fn entry(stages: &[usize], firsts: &[i32], lasts: &[i32], news: &[i32], i: usize) {
-    if stages.len() <= i {
-        return;
+    if i < stages.len() {
+        named(b"; ", stages[i]);
     }
-    if firsts.len() <= i {
-        return;
-    }
-    if lasts.len() <= i {
-        return;
-    }
-    if news.len() <= i {
-        return;
-    }
-    named(b"; ", stages[i]);
-    code(firsts[i]);
-    code(lasts[i]);
-    code(news[i]);
+    code_at(firsts, i);
+    code_at(lasts, i);
+    code_at(news, i);
 }
 
 fn entries(stages: &[usize], firsts: &[i32], lasts: &[i32], news: &[i32], n: usize) {
@@ -41,29 +32,43 @@ fn entries(stages: &[usize], firsts: &[i32], lasts: &[i32], news: &[i32], n: usi
     }
 }
 
-// The counts of a control file, with as many of its first entries as are asked for.
-pub(crate) fn show_control(control: &[u8], most: usize) {
+// The counts of a control file, or its refusal.
+fn show_answer(answer: ControlAnswer) {
+    match answer {
+        ControlAnswer::Read { commands, stages } => {
+            named(b"commands ", commands);
+            named(b", stages ", stages);
+        }
+        ControlAnswer::Refused(r) => refused(r.number, r.place),
+    }
+}
+
+// How many of its entries are shown: the first eight.
+fn shown(answer: ControlAnswer) -> usize {
+    match answer {
+        ControlAnswer::Read {
+            commands,
+            stages: _,
+        } => ground::smaller(commands, 8),
+        ControlAnswer::Refused(_) => 0,
+    }
+}
+
+// The counts of a control file, with its first entries.
+pub(crate) fn show_control(control: &[u8]) {
     let mut stages = [0usize; 257];
     let mut firsts = [0i32; 257];
     let mut lasts = [0i32; 257];
     let mut news = [0i32; 257];
-    match wattleslate::read_control(control, &mut stages, &mut firsts, &mut lasts, &mut news) {
-        ControlAnswer::Read {
-            commands,
-            stages: k,
-        } => {
-            named(b"commands ", commands);
-            named(b", stages ", k);
-            entries(
-                &stages,
-                &firsts,
-                &lasts,
-                &news,
-                ground::smaller(commands, most),
-            );
-        }
-        ControlAnswer::Refused(r) => refused(r.number, r.place),
-    }
+    let answer = wattleslate::read_control(
+        control,
+        &mut stages,
+        &mut firsts,
+        &mut lasts,
+        &mut news,
+    );
+    show_answer(answer);
+    entries(&stages, &firsts, &lasts, &news, shown(answer));
 }
 
 // What a control file is refused with where one of the lists has 255 entries.
@@ -72,16 +77,13 @@ pub(crate) fn show_short(control: &[u8]) {
     let mut firsts = [0i32; 256];
     let mut lasts = [0i32; 255];
     let mut news = [0i32; 256];
-    match wattleslate::read_control(control, &mut stages, &mut firsts, &mut lasts, &mut news) {
-        ControlAnswer::Read {
-            commands,
-            stages: k,
-        } => {
-            named(b"commands ", commands);
-            named(b", stages ", k);
-        }
-        ControlAnswer::Refused(r) => refused(r.number, r.place),
-    }
+    show_answer(wattleslate::read_control(
+        control,
+        &mut stages,
+        &mut firsts,
+        &mut lasts,
+        &mut news,
+    ));
 }
 
 // What a code maps to.

@@ -4,6 +4,7 @@ use crate::asking::load;
 use crate::asking::row_of;
 use crate::asking::word_of;
 use crate::printing::named;
+use crate::printing::quoted;
 use crate::printing::refused;
 use crate::printing::text;
 use drawing::DrawAnswer;
@@ -32,9 +33,7 @@ pub(crate) fn show_output(out: &mut [u8]) {
         out[i] = printable(out[i]);
         i += 1;
     }
-    text(b", `");
-    text(out);
-    text(b"`");
+    quoted(out);
 }
 
 fn all_zeros(area: &[u8]) -> bool {

@@ -1,11 +1,16 @@
 // What is printed about a font: what it says, the character that is used for a code, and a row.
+use crate::asking::behind;
 use crate::asking::code_of;
 use crate::asking::row_of;
+use crate::asking::word_of;
 use crate::indexes::ask;
+use crate::indexes::show;
+use crate::printing::heading;
 use crate::printing::named;
 use crate::printing::number;
+use crate::printing::quoted;
 use crate::printing::refused;
-use crate::printing::signed;
+use crate::printing::signed_named;
 use crate::printing::text;
 use ground::limits;
 use header::Given;
@@ -40,26 +45,36 @@ fn layout(y: Layout) {
     }
 }
 
-// What a header says, behind the number of characters.
-fn says(count: usize, h: Header) {
+// The five numbers that every header has, behind the hardblank.
+fn required(h: Header) {
     let hardblank = h.hardblank;
+    named(b", hardblank ", hardblank.0 as usize);
+    named(b", height ", h.height);
+    named(b", baseline ", h.baseline);
+    named(b", max_length ", h.max_length);
+    signed_named(b", old_layout ", h.old_layout);
+    named(b", comment_lines ", h.comment_lines);
+}
+
+// The numbers that a header may have, and the layout.
+fn optional(h: Header) {
     let direction = h.print_direction;
     let full = h.full_layout;
     let tags = h.codetag_count;
     let y = h.layout;
-    number(count);
-    named(b" characters, hardblank ", hardblank.0 as usize);
-    named(b", height ", h.height);
-    named(b", baseline ", h.baseline);
-    named(b", max_length ", h.max_length);
-    text(b", old_layout ");
-    signed(h.old_layout);
-    named(b", comment_lines ", h.comment_lines);
     given(b", print_direction ", direction);
     given(b", full_layout ", full);
     given(b", codetag_count ", tags);
     text(b", ");
     layout(y);
+}
+
+// What a header says, behind the number of characters.
+fn says(count: usize, h: Header) {
+    number(count);
+    text(b" characters");
+    required(h);
+    optional(h);
 }
 
 // What a font says, read into an index of 512 entries.
@@ -72,39 +87,40 @@ pub(crate) fn show_font(font: &[u8]) {
     }
 }
 
-// The character that is used for a code.
-pub(crate) fn show_entry(font: &[u8], word: &[u8]) {
+// The character that is used for a code, behind the font's name; the code is the second word.
+pub(crate) fn show_entry(font: &[u8], words: &[u8]) {
+    let word = word_of(behind(words));
+    text(word_of(words));
     text(b" ");
-    text(word);
-    text(b": ");
+    heading(word);
     match wattleslate::look_up(font, code_of(word)) {
-        LookUpAnswer::Used(entry) => {
-            let code = entry.code;
-            text(b"code ");
-            signed(code.0);
-            named(b", start ", entry.start);
-            named(b", width ", entry.width);
-        }
+        LookUpAnswer::Used(entry) => show(entry),
         LookUpAnswer::Nothing => text(b"none"),
         LookUpAnswer::Refused(r) => refused(r.number, r.place),
     }
 }
 
-// A row of the character that is used for a code.
-pub(crate) fn show_row(font: &[u8], word: &[u8], row: &[u8]) {
-    text(b" ");
-    text(word);
-    text(b" ");
-    text(row);
-    text(b": ");
-    match wattleslate::row_refusal(font, code_of(word), row_of(row)) {
+// Where a row is and its bytes, or its refusal.
+fn show_part(font: &[u8], code: Code, row: usize) {
+    match wattleslate::row_refusal(font, code, row) {
         RowRefusal::NotRefused { place, width } => {
             named(b"at ", place);
             named(b", width ", width);
-            text(b", `");
-            text(wattleslate::row(font, code_of(word), row_of(row)));
-            text(b"`");
+            quoted(wattleslate::row(font, code, row));
         }
         RowRefusal::Refused(r) => refused(r.number, r.place),
     }
+}
+
+// A row of the character that is used for a code, behind the words that ask for it: a font's name, the code and the row's number.
+pub(crate) fn show_row(font: &[u8], words: &[u8]) {
+    let second = behind(words);
+    let code = word_of(second);
+    let row = word_of(behind(second));
+    text(word_of(words));
+    text(b" ");
+    text(code);
+    text(b" ");
+    heading(row);
+    show_part(font, code_of(code), row_of(row));
 }

@@ -6,7 +6,7 @@ use crate::asking::word_of;
 use crate::printing::named;
 use crate::printing::number;
 use crate::printing::refused;
-use crate::printing::signed;
+use crate::printing::signed_named;
 use crate::printing::text;
 use chars::Entry;
 use reader::Use;
@@ -48,10 +48,10 @@ pub(crate) fn ask(font: &[u8], size: usize, count: usize, code: Code, place: usi
     }
 }
 
-fn show(e: Entry) {
+// An entry.
+pub(crate) fn show(e: Entry) {
     let code = e.code;
-    text(b"code ");
-    signed(code.0);
+    signed_named(b"code ", code.0);
     named(b", start ", e.start);
     named(b", width ", e.width);
 }
@@ -73,6 +73,19 @@ fn show_answer(answer: FontAnswer) {
     }
 }
 
+// The answer of reading the font, the entry used, and the entry at the place.
+fn show_asked(a: Asked, place: usize) {
+    let answer = a.answer;
+    let used = a.used;
+    let entry = a.entry;
+    show_answer(answer);
+    text(b"; used ");
+    show_used(used);
+    named(b"; at ", place);
+    text(b": ");
+    show(entry);
+}
+
 // The words are a size, a count, a code and a place: the answer of reading the font, the entry used for the code, and the entry at the place.
 pub(crate) fn show_index(font: &[u8], words: &[u8]) {
     let size = ground::smaller(row_of(word_of(words)), MOST);
@@ -86,13 +99,5 @@ pub(crate) fn show_index(font: &[u8], words: &[u8]) {
         code_of(word_of(third)),
         place,
     );
-    let answer = a.answer;
-    let used = a.used;
-    let entry = a.entry;
-    show_answer(answer);
-    text(b"; used ");
-    show_used(used);
-    named(b"; at ", place);
-    text(b": ");
-    show(entry);
+    show_asked(a, place);
 }

@@ -91,32 +91,41 @@ fn join_blocks(m: Manner, s: Shape, length: usize, room: usize, t: &[u8])
     }
 }
 
-// The words say how the blocks are joined (layout, direction, hardblank), their shape (height, the line's width, the character's width), the area's
-// size and the length of the line's block; the blocks follow.
-pub(crate) fn show_join(words: &[u8]) {
+// Three words: a layout, a direction and a hardblank.
+fn manner_of(words: &[u8]) -> Manner {
     let second = behind(words);
-    let third = behind(second);
-    let fourth = behind(third);
-    let fifth = behind(fourth);
-    let sixth = behind(fifth);
-    let seventh = behind(sixth);
-    let eighth = behind(seventh);
-    let m = Manner {
+    Manner {
         layout: layout_of(word_of(words)),
         direction: Direction::from_print(row_of(word_of(second))),
-        hardblank: hardblank_of(word_of(third)),
-    };
-    let s = Shape {
-        height: row_of(word_of(fourth)),
-        line: row_of(word_of(fifth)),
-        character: row_of(word_of(sixth)),
-    };
-    let room = ground::smaller(row_of(word_of(seventh)), MOST_ROOM);
+        hardblank: hardblank_of(word_of(behind(second))),
+    }
+}
+
+// Three words: the height, the line's width and the character's width.
+fn shape_of(words: &[u8]) -> Shape {
+    let second = behind(words);
+    Shape {
+        height: row_of(word_of(words)),
+        line: row_of(word_of(second)),
+        character: row_of(word_of(behind(second))),
+    }
+}
+
+fn behind_three(words: &[u8]) -> &[u8] {
+    behind(behind(behind(words)))
+}
+
+// The words say how the blocks are joined, their shape, the area's size and the length of the line's block; the blocks follow.
+pub(crate) fn show_join(words: &[u8]) {
+    let shape = behind_three(words);
+    let area = behind_three(shape);
+    let length = behind(area);
+    let room = ground::smaller(row_of(word_of(area)), MOST_ROOM);
     join_blocks(
-        m,
-        s,
-        row_of(word_of(eighth)),
+        manner_of(words),
+        shape_of(shape),
+        row_of(word_of(length)),
         room,
-        past_byte(behind(eighth)),
+        past_byte(behind(length)),
     );
 }

@@ -15,31 +15,24 @@ use libc::STDIN_FILENO;
 use lines::Cursor;
 use lines::LineStep;
 use lines::words;
+use printing::heading;
 use printing::text;
 
 // Requests about a font; the answer begins with the font's name, or with the request.
 fn about_font(line: &[u8], font: &[u8]) {
     let arguments = behind(line);
     if words::starts_with(line, b"read ") {
-        text(word_of(arguments));
-        text(b": ");
+        heading(word_of(arguments));
         fonts::show_font(font);
     }
     if words::starts_with(line, b"look ") {
-        text(word_of(arguments));
-        fonts::show_entry(font, word_of(behind(arguments)));
+        fonts::show_entry(font, arguments);
     }
     if words::starts_with(line, b"row ") {
-        text(word_of(arguments));
-        fonts::show_row(
-            font,
-            word_of(behind(arguments)),
-            word_of(behind(behind(arguments))),
-        );
+        fonts::show_row(font, arguments);
     }
     if words::starts_with(line, b"index ") {
-        text(line);
-        text(b": ");
+        heading(line);
         indexes::show_index(font, behind(arguments));
     }
 }
@@ -47,18 +40,15 @@ fn about_font(line: &[u8], font: &[u8]) {
 // Requests about a control file; the answer begins with the request.
 fn about_control(line: &[u8], control: &[u8]) {
     if words::starts_with(line, b"control ") {
-        text(line);
-        text(b": ");
-        controls::show_control(control, 8);
+        heading(line);
+        controls::show_control(control);
     }
     if words::starts_with(line, b"short ") {
-        text(line);
-        text(b": ");
+        heading(line);
         controls::show_short(control);
     }
     if words::starts_with(line, b"map ") {
-        text(line);
-        text(b": ");
+        heading(line);
         controls::show_map(control, word_of(behind(behind(line))));
     }
 }
@@ -66,8 +56,7 @@ fn about_control(line: &[u8], control: &[u8]) {
 // A request for a drawing; the answer begins with the request, of which 64 bytes are shown.
 fn about_drawing(line: &[u8], font: &[u8]) {
     if words::starts_with(line, b"draw ") {
-        text(shortened(line));
-        text(b": ");
+        heading(shortened(line));
         drawings::show_drawing(font, behind(behind(line)));
     }
 }
@@ -75,8 +64,7 @@ fn about_drawing(line: &[u8], font: &[u8]) {
 // A request for a join; the answer begins with the request, of which 64 bytes are shown.
 fn about_join(line: &[u8]) {
     if words::starts_with(line, b"join ") {
-        text(shortened(line));
-        text(b": ");
+        heading(shortened(line));
         joins::show_join(behind(line));
     }
 }
@@ -85,22 +73,22 @@ fn about_join(line: &[u8]) {
 fn request(line: &[u8]) {
     let mut buffer = [0u8; 65537];
     let n = load(word_of(behind(line)), &mut buffer);
-    about_font(line, &buffer[..n]);
-    about_control(line, &buffer[..n]);
-    about_drawing(line, &buffer[..n]);
+    let file = &buffer[..n];
+    about_font(line, file);
+    about_control(line, file);
+    about_drawing(line, file);
     about_join(line);
     text(b"\n");
 }
 
 // The requests of a text, a line each.
 fn requests(t: &[u8]) {
-    let mut at: usize = 0;
+    let mut cursor = Cursor::new();
     loop {
-        let cursor = Cursor { at };
         match cursor.next(t) {
             LineStep::Line { start, end, next } => {
                 request(&t[start..end]);
-                at = next.at;
+                cursor = next;
             }
             LineStep::NoLine => {
                 return;

@@ -9,6 +9,19 @@ pub(crate) fn number(n: usize) {
     io::print_decimal(STDOUT_FILENO, n as u64);
 }
 
+// A text, and behind it a colon and a blank.
+pub(crate) fn heading(t: &[u8]) {
+    text(t);
+    text(b": ");
+}
+
+// Bytes in backquotes, behind a comma.
+pub(crate) fn quoted(t: &[u8]) {
+    text(b", `");
+    text(t);
+    text(b"`");
+}
+
 // A number behind a text.
 pub(crate) fn named(name: &[u8], n: usize) {
     text(name);
@@ -23,6 +36,12 @@ pub(crate) fn signed(z: i32) {
         return;
     }
     io::print_decimal(STDOUT_FILENO, w as u64);
+}
+
+// The same of a code or of another number with a sign.
+pub(crate) fn signed_named(name: &[u8], z: i32) {
+    text(name);
+    signed(z);
 }
 
 pub(crate) fn refused(number: usize, place: usize) {

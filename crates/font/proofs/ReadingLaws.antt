@@ -25,9 +25,9 @@ use Rattle.chars.specs.Codes.{code, requiredCodes, requiredCount}
 use Rattle.chars.specs.Chars.{Ending, finished, stopped, Listing, listing}
 use Rattle.chars.proofs.CodeLaws.{codes-length}
 use Rattle.chars.proofs.EntryLaws.{EachStands, each-further, each-dropped, listing-sound}
-use Rattle.chars.proofs.OrderLaws.{InOrder, listing-ordered, Coded, listing-coded, coded-first, EachTagged, coded-others}
+use Rattle.chars.proofs.OrderLaws.{InOrder, Coded, listing-coded, coded-ordered, coded-first, EachTagged, coded-others}
 use Rattle.font.specs.Font.{says, refuses, format, readingOf, withCharacters, afterHeader, onLines, reading}
-use Rattle.font.proofs.RefusalLaws.{short-is, long-is, deciding, font-exactly, font-inside}
+use Rattle.font.proofs.RefusalLaws.{short-is, long-is, deciding, only-font, font-inside}
 
 -- A font that is read has a first line with its header, and on the lines behind it the characters.
 data LinesRead (size : ℕ) (h : Header) : List TextLine → List Entry → Type 0 where
@@ -65,16 +65,13 @@ module _ (size : ℕ) (h : Header) where
       let s = listing-sound (format h) size requiredCodes 0 (drop (h .«comment_lines») ls) (omega (arith, codes-length)) in
       (omega (arith, s .few), each-further (format h) l ls (x .entries) (each-dropped (format h) (h .«comment_lines») ls (x .entries) (s .rows)))
 
-  read-ordered : (ls : List TextLine) (es : List Entry) → LinesRead size h ls es → InOrder (format h) (drop (suc (h .«comment_lines»)) ls) es
-  read-ordered _ _ (behind l ls p q) = listing-ordered (format h) size requiredCodes 0 (drop (h .«comment_lines») ls) (omega (arith, codes-length))
-
   read-coded : (ls : List TextLine) (es : List Entry) → LinesRead size h ls es → Coded (format h) requiredCodes (drop (suc (h .«comment_lines»)) ls) es
   read-coded _ _ (behind l ls p q) = listing-coded (format h) size requiredCodes 0 (drop (h .«comment_lines») ls) q
 
 module _ (s : List ℕ) where
   -- a font is refused by 1 to 8, at a place within it or at its end
   pub font-refusal : (r : Refusal) → reading s ≡ refuses r → (fontTooLong ≤ r .number) × (r .number ≤ tooManyCharacters) × (r .place ≤ length s) × (r .place ≤ maxFontLength)
-  font-refusal r e = font-inside s r (font-exactly s r .0 e)
+  font-refusal r e = font-inside s r (only-font s r e)
 
   -- A font that is read.
   pub record FontRead (h : Header) (es : List Entry) : Type 0 where
@@ -96,13 +93,13 @@ module _ (s : List ℕ) where
       let r = read-sound (length s) h (linesFrom s 0) es (x .1) in
       record { short = x .0; high = read-high (length s) h (linesFrom s 0) es (x .1); few = r .0; rows = r .1 }
 
-  -- behind the header line and the comment lines the characters stand "in file order"
-  pub font-ordered : (h : Header) (es : List Entry) → reading s ≡ says h es → InOrder (format h) (drop (suc (h .«comment_lines»)) (linesFrom s 0)) es
-  font-ordered h es e = read-ordered (length s) h (linesFrom s 0) es (font-lines h es e .1)
-
-  -- there stand the characters of the required codes, in order, and then the tagged ones, each behind the tag line that names its code
+  -- behind the header line and the comment lines stand the characters of the required codes, in order, and then the tagged ones, each behind the tag line that names its code
   pub font-coded : (h : Header) (es : List Entry) → reading s ≡ says h es → Coded (format h) requiredCodes (drop (suc (h .«comment_lines»)) (linesFrom s 0)) es
   font-coded h es e = read-coded (length s) h (linesFrom s 0) es (font-lines h es e .1)
+
+  -- so they stand "in file order"
+  pub font-ordered : (h : Header) (es : List Entry) → reading s ≡ says h es → InOrder (format h) (drop (suc (h .«comment_lines»)) (linesFrom s 0)) es
+  font-ordered h es e = coded-ordered (format h) requiredCodes (drop (suc (h .«comment_lines»)) (linesFrom s 0)) es (font-coded h es e)
 
   -- the first 102 have the required codes
   pub font-required : (h : Header) (es : List Entry) → reading s ≡ says h es → map (λ (e : Entry). e .code) (take requiredCount es) ≡ map (λ (c : ℕ). code (pos c)) requiredCodes

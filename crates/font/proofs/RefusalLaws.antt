@@ -1,14 +1,14 @@
--- A font is refused exactly when document 01's table says so: one type of its refusals, 1 to 8, each at the line where it is met.
+-- A font is refused only as document 01's table says: one type of its refusals, 1 to 8, each at the line where it is met.
 -- Assumes nothing.
 use mathlib.Core.Path.{_≡_, refl, sym, ap, _∙_, subst}
 use mathlib.Core.Bool.{Bool, true, false, cond}
 use mathlib.Core.List.{List, [], _∷_}
-use mathlib.Core.Logic.{_↔_, _⊎_, inl, inr}
+use mathlib.Core.Logic.{_⊎_, inl, inr}
 use Prim.Native.Nat.{ℕ, _≤_, _<_}
 use native.Mathlib.Omega.{arith}
 use lib.Dec.{leb}
 use lib.ListN.{length, drop}
-use borrow.Author.Tests.{lt-ltb, le-ltb, le-leb, lt-leb, leb-true, leb-false}
+use borrow.Author.Tests.{lt-ltb, le-ltb, leb-true, leb-false}
 use Rattle.ground.specs.Refusals.{refusal, fontTooLong, noSignature, missingLine, tooManyCharacters}
 use Rattle.ground.specs.declared.refusals.Refusal.{Refusal}
 use Rattle.ground.proofs.Tests.{clash, below-or-not}
@@ -23,7 +23,7 @@ use Rattle.header.proofs.RefusalLaws.{HeaderStops, header-exactly, header-refus
 use Rattle.chars.specs.declared.Entry.{Entry}
 use Rattle.chars.specs.Codes.{requiredCodes}
 use Rattle.chars.specs.Chars.{Ending, finished, stopped, Listing, listing}
-use Rattle.chars.proofs.RefusalLaws.{CharactersStop, characters-exactly, characters-inside}
+use Rattle.chars.proofs.RefusalLaws.{CharactersStop, only-characters, characters-inside}
 use Rattle.font.specs.Font.{refuses, format, readingOf, withCharacters, afterHeader, onLines, reading}
 
 -- "2, 3, 4, then 5 to 8 as met line by line": the refusals of a font's lines.
@@ -45,26 +45,17 @@ pub data FontStops (s : List ℕ) : Refusal → Type 0 where
   -- 2 to 8, of a font that is not too long
   on-lines : {r : Refusal} → length s ≤ maxFontLength → LinesStop (length s) (linesFrom s 0) r → FontStops s r
 
-ended-stopped : (h : Header) (en : Ending) (es : List Entry) (r : Refusal) → readingOf h en es ≡ refuses r → en ≡ stopped r
+pub ended-stopped : (h : Header) (en : Ending) (es : List Entry) (r : Refusal) → readingOf h en es ≡ refuses r → en ≡ stopped r
 ended-stopped h finished es r e = clash (cc)
 ended-stopped h (stopped q) es r e = let d : q ≡ r = cc in ap stopped d
 
 module _ (size : ℕ) where
-  header-by : (l : TextLine) (ls : List TextLine) (x : HeaderStep) → readHeader (l .text) ≡ x → onLines size (l ∷ ls) ≡ afterHeader x size ls
+  pub header-by : (l : TextLine) (ls : List TextLine) (x : HeaderStep) → readHeader (l .text) ≡ x → onLines size (l ∷ ls) ≡ afterHeader x size ls
   header-by l ls x e = ap (λ (y : HeaderStep). afterHeader y size ls) e
 
   -- the characters behind a header and its comment lines
   abbrev behind : Header → List TextLine → Listing
   behind h ls = listing (format h) size requiredCodes 0 (drop (h .«comment_lines») ls)
-
-  lines-stopped : (ls : List TextLine) (r : Refusal) → LinesStop size ls r → onLines size ls ≡ refuses r
-  lines-stopped [] _ no-line = refl
-  lines-stopped (l ∷ ls) r (in-header b) = header-by l ls (Refused r) (header-exactly (l .text) r .1 b)
-  lines-stopped (l ∷ ls) _ (in-comments h e k) =
-      header-by l ls (Good h) e ∙ ap (λ (b : Bool). cond b (withCharacters h (behind h ls)) (refuses (refusal missingLine size))) (lt-leb (h .«comment_lines») (length ls) k)
-  lines-stopped (l ∷ ls) r (in-characters h e k s) =
-      header-by l ls (Good h) e ∙ ap (λ (b : Bool). cond b (withCharacters h (behind h ls)) (refuses (refusal missingLine size))) (le-leb (h .«comment_lines») (length ls) k) ∙
-      ap (λ (x : Ending). readingOf h x (behind h ls .entries)) (characters-exactly (format h) size requiredCodes 0 (drop (h .«comment_lines») ls) r .1 s)
 
   only-lines : (ls : List TextLine) (r : Refusal) → onLines size ls ≡ refuses r → LinesStop size ls r
   only-lines [] r e = let p : refusal noSignature 0 ≡ r = cc in subst (LinesStop size []) p no-line
@@ -74,7 +65,7 @@ module _ (size : ℕ) where
           cond b (withCharacters h (behind h ls)) (refuses (refusal missingLine size)) ≡ refuses r → LinesStop size (l ∷ ls) r
       by h p true b q =
           in-characters {l = l} h p (leb-true (h .«comment_lines») (length ls) b)
-          (characters-exactly (format h) size requiredCodes 0 (drop (h .«comment_lines») ls) r .0 (ended-stopped h (behind h ls .ending) (behind h ls .entries) r q))
+          (only-characters (format h) size requiredCodes 0 (drop (h .«comment_lines») ls) r (ended-stopped h (behind h ls .ending) (behind h ls .entries) r q))
       by h p false b q =
           let d : refusal missingLine size ≡ r = cc in
           subst (LinesStop size (l ∷ ls)) d (in-comments {l = l} h p (leb-false (h .«comment_lines») (length ls) b))
@@ -104,20 +95,16 @@ module _ (s : List ℕ) where
   pub deciding : (maxFontLength < length s) ⊎ (length s ≤ maxFontLength)
   deciding = below-or-not maxFontLength (length s)
 
-  -- each refusal of the table, 1 to 8, is given exactly when it says so, at the line where it is met
-  pub font-exactly : (r : Refusal) → reading s ≡ refuses r ↔ FontStops s r
-  font-exactly r = (to deciding, from r)
+  -- each refusal is one of the table, 1 to 8, met at its line
+  pub only-font : (r : Refusal) → reading s ≡ refuses r → FontStops s r
+  only-font r e = go deciding
     where
-      to : (maxFontLength < length s) ⊎ (length s ≤ maxFontLength) → reading s ≡ refuses r → FontStops s r
-      to (inl h) e =
+      go : (maxFontLength < length s) ⊎ (length s ≤ maxFontLength) → FontStops s r
+      go (inl h) =
           let is : refuses (refusal fontTooLong 0) ≡ refuses r = sym (long-is h) ∙ e in
           let p : refusal fontTooLong 0 ≡ r = cc in
           subst (FontStops s) p (too-long h)
-      to (inr h) e = on-lines h (only-lines (length s) (linesFrom s 0) r (sym (short-is h) ∙ e))
-
-      from : (r : Refusal) → FontStops s r → reading s ≡ refuses r
-      from _ (too-long h) = long-is h
-      from r (on-lines h b) = short-is h ∙ lines-stopped (length s) (linesFrom s 0) r b
+      go (inr h) = on-lines h (only-lines (length s) (linesFrom s 0) r (sym (short-is h) ∙ e))
 
   -- by 1 to 8, at a place within it or at its end
   pub font-inside : (r : Refusal) → FontStops s r → (fontTooLong ≤ r .number) × (r .number ≤ tooManyCharacters) × (r .place ≤ length s) × (r .place ≤ maxFontLength)

@@ -2,7 +2,7 @@
 -- Assumes nothing.
 use mathlib.Core.Path.{_≡_, refl, sym, ap, _∙_, subst}
 use mathlib.Core.Bool.{Bool, true, false, cond}
-use mathlib.Core.Logic.{_↔_}
+use mathlib.Core.Logic.{_↔_, _⊎_, inl, inr, ⊎-elim}
 use mathlib.Core.List.{List, [], _∷_}
 use Prim.Native.Nat.{ℕ, _≤_, _<_}
 use native.Mathlib.Omega.{arith}
@@ -36,6 +36,31 @@ pub data BadParameters : List ℕ → Type 0 where
   no-blank : {x : ℕ} {rest : List ℕ} → isBlank x ≡ false → BadParameters (x ∷ rest)
   under-five : {x : ℕ} {rest : List ℕ} → isBlank x ≡ true → length (parameterNumbers rest) < 5 → BadParameters (x ∷ rest)
   out-of-range : {x : ℕ} {rest : List ℕ} (p : Parameters) → isBlank x ≡ true → parameters (parameterNumbers rest) ≡ All p → legalParameters p ≡ false → BadParameters (x ∷ rest)
+
+-- The same in one sentence each.
+pub hardblank-exactly : (u : List ℕ) → BadHardblank u ↔ ((u ≡ []) ⊎ ((h : ℕ) × (rest : List ℕ) × (u ≡ h ∷ rest) × (legalHardblank h ≡ false)))
+hardblank-exactly u = (to u, λ w. ⊎-elim (λ e. subst BadHardblank (sym e) absent) (λ x. subst BadHardblank (sym (x .2)) (unfit {rest = x .1} (x .3))) w)
+  where
+    to : (u : List ℕ) → BadHardblank u → (u ≡ []) ⊎ ((h : ℕ) × (rest : List ℕ) × (u ≡ h ∷ rest) × (legalHardblank h ≡ false))
+    to _ absent = inl refl
+    to (h ∷ rest) (unfit e) = inr (h, rest, refl, e)
+
+-- what is wrong behind the byte after the hardblank
+abbrev NoNumbers : ℕ → List ℕ → Type 0
+NoNumbers x more = (isBlank x ≡ false) ⊎ (length (parameterNumbers more) < 5) ⊎ ((p : Parameters) × (parameters (parameterNumbers more) ≡ All p) × (legalParameters p ≡ false))
+
+pub parameters-exactly : (rest : List ℕ) → BadParameters rest ↔ ((rest ≡ []) ⊎ ((x : ℕ) × (more : List ℕ) × (rest ≡ x ∷ more) × NoNumbers x more))
+parameters-exactly rest = (to rest, λ w. ⊎-elim (λ e. subst BadParameters (sym e) no-more) (λ y. subst BadParameters (sym (y .2)) (by (y .0) (y .1) (isBlank (y .0)) refl (y .3))) w)
+  where
+    to : (rest : List ℕ) → BadParameters rest → (rest ≡ []) ⊎ ((x : ℕ) × (more : List ℕ) × (rest ≡ x ∷ more) × NoNumbers x more)
+    to _ no-more = inl refl
+    to (x ∷ more) (no-blank e) = inr (x, more, refl, inl e)
+    to (x ∷ more) (under-five e l) = inr (x, more, refl, inr (inl l))
+    to (x ∷ more) (out-of-range p e q l) = inr (x, more, refl, inr (inr (p, q, l)))
+
+    by : (x : ℕ) (more : List ℕ) (b : Bool) → isBlank x ≡ b → NoNumbers x more → BadParameters (x ∷ more)
+    by x more false e w = no-blank e
+    by x more true e w = ⊎-elim (λ q. clash (cc)) (λ v. ⊎-elim (λ l. under-five e l) (λ z. out-of-range (z .0) e (z .1) (z .2)) v) w
 
 -- What an answer to what follows the hardblank is for.
 data After (rest : List ℕ) (r : HeaderStep) : Type 0 where

@@ -1,27 +1,25 @@
 -- Each answer of a join is given exactly when document 01 says so: the answer is one of those named here, and what is named for an answer gives it.
 -- Assumes nothing.
-use mathlib.Core.Path.{_≡_, refl, sym, ap, _∙_, subst}
-use mathlib.Core.Bool.{Bool, true, false, not, _&&_, true≢false}
-use mathlib.Core.Logic.{_⊎_, inl, inr, ⊎-elim}
+use mathlib.Core.Path.{_≡_, refl, sym, ap, ap₂, _∙_, subst}
+use mathlib.Core.Bool.{Bool, true, false, _&&_, true≢false}
+use mathlib.Core.Logic.{_↔_, _⊎_, inl, inr, ⊎-elim}
 use mathlib.Core.List.{List}
 use Prim.Native.Nat.{ℕ, _*_, _≤_, _<_}
 use native.Mathlib.Omega.{arith}
-use native.Mathlib.Decide.{decLt}
-use lib.Dec.{ltb, leb, eqb}
+use lib.Dec.{ltb, leb}
 use lib.ListN.{length}
-use borrow.Author.Tests.{lt-ltb, le-ltb, ltb-true, ltb-false, leb-true, lt-leb, leb-false, ne-eqb, eqb-true, eqb-false}
+use borrow.Author.Tests.{lt-ltb, le-ltb, ltb-true, ltb-false, leb-true, leb-false, eqb-true, eqb-false}
 use Rattle.ground.specs.Limits.{maxHeight, maxLineWidth, maxCharacterWidth, maxRules}
-use Rattle.ground.specs.Refusals.{areaTooSmall, lineTooWide, badShape}
-use Rattle.ground.proofs.Tests.{and-left, and-right, and-left-false, and-right-false, never-both}
+use Rattle.ground.specs.Refusals.{refusal, areaTooSmall, lineTooWide, badShape}
+use Rattle.ground.proofs.Tests.{and-left, and-right, never-both}
 use Rattle.subchars.specs.declared.Layout.{Layout}
 use Rattle.subchars.specs.declared.Layout.the-variants.{FullWidth, Fitting, Smushing}
-use Rattle.subchars.specs.declared.Smushing.{Smushing as Kind}
 use Rattle.subchars.specs.declared.Smushing.the-variants.{Universal, Controlled}
 use Rattle.subchars.specs.declared.Mode.{Mode}
 use Rattle.subchars.specs.Pair.{legalHardblank}
 use Rattle.join.specs.Join.{Block, exactBlock, leftOf, rightOf, overlap, besides}
 use Rattle.join.specs.Shape.{goodKind, goodLayout, goodBlock, goodShape}
-use Rattle.join.specs.declared.JoinAnswer.the-variants.{Joined}
+use Rattle.join.specs.declared.JoinAnswer.the-variants.{Joined, Refused}
 use Rattle.join.specs.JoinCall.{JoinTold, joinTells, refusing, toldOf, joinTold}
 use Rattle.join.proofs.Demand.{overlap-narrower}
 
@@ -42,6 +40,28 @@ module _ (y : Mode) (h n : ℕ) (line : List ℕ) (m : ℕ) (character : List �
     hardblank-refused : legalHardblank (y .hardblank .0) ≡ false → BadShape
     line-not-exact : (length line ≡ h * n → ⊥) → BadShape
     character-not-exact : (length character ≡ h * m → ⊥) → BadShape
+
+  -- the same in one sentence
+  abbrev pub ShapeBad : Type 0
+  ShapeBad =
+      (h < 1) ⊎ (maxHeight < h) ⊎ (maxLineWidth < n) ⊎ (maxCharacterWidth < m) ⊎ ((rules : ℕ) × (y .layout ≡ Smushing (Controlled rules)) × ((rules < 1) ⊎ (maxRules < rules))) ⊎
+      (legalHardblank (y .hardblank .0) ≡ false) ⊎ (length line ≡ h * n → ⊥) ⊎ (length character ≡ h * m → ⊥)
+
+  shape-listed : BadShape ↔ ShapeBad
+  shape-listed = (
+    to,
+    λ a. ⊎-elim height-under (λ b. ⊎-elim height-over (λ c. ⊎-elim line-over (λ d. ⊎-elim character-over (λ e. ⊎-elim (λ r. rules-outside (r .0) (r .1) (r .2)) (λ f. ⊎-elim hardblank-refused (λ g. ⊎-elim line-not-exact character-not-exact g) f) e) d) c) b) a,
+  )
+    where
+      to : BadShape → ShapeBad
+      to (height-under u) = inl u
+      to (height-over u) = inr (inl u)
+      to (line-over u) = inr (inr (inl u))
+      to (character-over u) = inr (inr (inr (inl u)))
+      to (rules-outside rules e u) = inr (inr (inr (inr (inl (rules, e, u)))))
+      to (hardblank-refused u) = inr (inr (inr (inr (inr (inl u)))))
+      to (line-not-exact u) = inr (inr (inr (inr (inr (inr (inl u))))))
+      to (character-not-exact u) = inr (inr (inr (inr (inr (inr (inr u))))))
 
   abbrev shape : Bool
   shape = goodShape y h n (length line) m (length character)
@@ -167,6 +187,44 @@ module _ (y : Mode) (h n : ℕ) (line : List ℕ) (m : ℕ) (character : List �
         by-shape : (b : Bool) → shape ≡ b → JoinsTo answer
         by-shape true e = by-width (good-is e) (ltb maxLineWidth width) refl
         by-shape false e = as-told _ (bad-shape (shape-bad e))
+
+    -- Each answer by itself: what it is given for.
+    abbrev Good : Type 0
+    Good = ShapeBad → ⊥
+
+    abbrev Told : JoinTold → Type 0
+    Told t =
+        (t .number ≡ badShape → (t .place ≡ 0) × ShapeBad) ×
+        (t .number ≡ lineTooWide → (t .place ≡ 0) × Good × (maxLineWidth < width)) ×
+        (t .number ≡ areaTooSmall → (t .place ≡ 0) × Good × (width ≤ maxLineWidth) × (room < h * width)) ×
+        (t .refused ≡ false → Good × (width ≤ maxLineWidth) × (h * width ≤ room) × (t .overlap ≡ overlap y h left right) × (t .width ≡ width))
+
+    good : (BadShape → ⊥) → Good
+    good f b = f (shape-listed .1 b)
+
+    told : (t : JoinTold) → JoinsTo t → Told t
+    told _ (bad-shape b) = (λ e. (refl, shape-listed .0 b), λ e. absurd (omega arith), λ e. absurd (omega arith), λ e. absurd (true≢false e))
+    told _ (too-wide f u) = (λ e. absurd (omega arith), λ e. (refl, good f, u), λ e. absurd (omega arith), λ e. absurd (true≢false e))
+    told _ (too-small f u v) = (λ e. absurd (omega arith), λ e. absurd (omega arith), λ e. (refl, good f, u, v), λ e. absurd (true≢false e))
+    told _ (joined f u v) = (λ e. absurd (omega arith), λ e. absurd (omega arith), λ e. absurd (omega arith), λ e. (good f, u, v, refl, refl))
+
+    tells : (t : JoinTold) → answer ≡ t → Told t
+    tells t e = told t (subst JoinsTo e one-of)
+
+    at-place : (number p : ℕ) → p ≡ 0 → answer ≡ refusing number → answer ≡ joinTells (Refused (refusal number p))
+    at-place number p e a = subst (λ (q : ℕ). answer ≡ joinTells (Refused (refusal number q))) (sym e) a
+
+    pub row-17 : (p : ℕ) → answer ≡ joinTells (Refused (refusal badShape p)) ↔ ((p ≡ 0) × ShapeBad)
+    row-17 p = (λ e. tells _ e .0 refl, λ w. at-place badShape p (w .0) (gives _ (bad-shape (shape-listed .1 (w .1)))))
+
+    pub row-16 : (p : ℕ) → answer ≡ joinTells (Refused (refusal lineTooWide p)) ↔ ((p ≡ 0) × Good × (maxLineWidth < width))
+    row-16 p = (λ e. tells _ e .1 refl, λ w. at-place lineTooWide p (w .0) (gives _ (too-wide (λ b. w .1 (shape-listed .0 b)) (w .2))))
+
+    pub row-9 : (p : ℕ) → answer ≡ joinTells (Refused (refusal areaTooSmall p)) ↔ ((p ≡ 0) × Good × (width ≤ maxLineWidth) × (room < h * width))
+    row-9 p = (λ e. tells _ e .2 refl, λ w. at-place areaTooSmall p (w .0) (gives _ (too-small (λ b. w .1 (shape-listed .0 b)) (w .2) (w .3))))
+
+    pub row-joined : (o w : ℕ) → answer ≡ joinTells (Joined o w) ↔ (Good × (width ≤ maxLineWidth) × (h * width ≤ room) × (o ≡ overlap y h left right) × (w ≡ width))
+    row-joined o w = (λ e. tells _ e .3 refl, λ x. gives _ (joined (λ b. x .0 (shape-listed .0 b)) (x .1) (x .2)) ∙ ap₂ (λ (i j : ℕ). joinTells (Joined i j)) (sym (x .3)) (sym (x .4)))
 
     -- What a refusal tells: one of the three numbers, place 0.
     pub refused-tells : answer .refused ≡ true → (areaTooSmall ≤ answer .number) × (answer .number ≤ badShape) × (answer .place ≡ 0)

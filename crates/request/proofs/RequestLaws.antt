@@ -3,7 +3,7 @@
 use mathlib.Core.Path.{_≡_, refl, sym, ap, _∙_}
 use mathlib.Core.Bool.{Bool, true, false, cond}
 use mathlib.Core.List.{List}
-use mathlib.Core.Logic.{_↔_}
+use mathlib.Core.Logic.{_↔_, _⊎_, inl, inr, ⊎-elim}
 use Prim.Native.Nat.{ℕ, _+_, _≤_, _<_}
 use native.Mathlib.Omega.{arith}
 use lib.Dec.{ltb}
@@ -76,6 +76,17 @@ module _ (s : List ℕ) (c : Code) (r : ℕ) where
   pub data BadRequest : Type 0 where
     high : (h : Header) (es : List Entry) → reading s ≡ says h es → h .height ≤ r → BadRequest
     missing : (h : Header) (es : List Entry) → reading s ≡ says h es → used c es ≡ Nothing → BadRequest
+
+  -- the same in one sentence
+  abbrev pub RequestBad : Type 0
+  RequestBad = (h : Header) × (es : List Entry) × (reading s ≡ says h es) × ((h .height ≤ r) ⊎ (used c es ≡ Nothing))
+
+  pub request-exactly : BadRequest ↔ RequestBad
+  request-exactly = (to, λ w. ⊎-elim (high (w .0) (w .1) (w .2)) (missing (w .0) (w .1) (w .2)) (w .3))
+    where
+      to : BadRequest → RequestBad
+      to (high h es m k) = (h, es, m, inl k)
+      to (missing h es m u) = (h, es, m, inr u)
 
   -- The row of a character of a font that was read.
   pub record Given (p w : ℕ) : Type 0 where
@@ -150,12 +161,12 @@ module _ (s : List ℕ) (c : Code) (r : ℕ) where
       go (Used e) = ap (λ (b : Bool). cond b (Row (after r s (e .start)) (e .width)) badRequest) (le-ltb r (h .height) k)
       go Nothing = refl
 
-  pub refused-17 : (p : ℕ) → rowRequest s c r ≡ Refused (refusal badShape p) ↔ ((p ≡ 0) × BadRequest)
-  refused-17 p = (λ e. to (refusal badShape p) refl e answer, λ w. bad-shape (w .1) ∙ ap (λ (j : ℕ). Refused (refusal badShape j)) (sym (w .0)))
+  pub refused-17 : (p : ℕ) → rowRequest s c r ≡ Refused (refusal badShape p) ↔ ((p ≡ 0) × RequestBad)
+  refused-17 p = (λ e. to (refusal badShape p) refl e answer, λ w. bad-shape (request-exactly .1 (w .1)) ∙ ap (λ (j : ℕ). Refused (refusal badShape j)) (sym (w .0)))
     where
-      to : (x : Refusal) → x .number ≡ badShape → rowRequest s c r ≡ Refused x → Answer (rowRequest s c r) → (x .place ≡ 0) × BadRequest
+      to : (x : Refusal) → x .number ≡ badShape → rowRequest s c r ≡ Refused x → Answer (rowRequest s c r) → (x .place ≡ 0) × RequestBad
       to x n e (gives a b q g) = clash (cc)
-      to x n e (shape q b) = (cc, b)
+      to x n e (shape q b) = (cc, request-exactly .0 b)
       to x n e (of-font z q m) = let k : z .number ≡ x .number = cc in absurd (omega (arith, font-refusal s z m .1))
 
   -- the font's own refusals, exactly those of the font

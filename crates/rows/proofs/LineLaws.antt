@@ -3,7 +3,7 @@
 use mathlib.Core.Path.{_≡_, refl, sym, ap, _∙_}
 use mathlib.Core.Bool.{Bool, true, false, cond, _&&_}
 use mathlib.Core.List.{List}
-use mathlib.Core.Logic.{_↔_}
+use mathlib.Core.Logic.{_↔_, _⊎_, inl, inr, ⊎-elim}
 use Prim.Native.Nat.{ℕ, zero, suc, _≤_, _<_}
 use native.Mathlib.Omega.{arith}
 use lib.Dec.{ltb, leb}
@@ -111,3 +111,29 @@ width-exactly f w t = (λ e. to (rowOf f t) refl e, from)
     from : BadRowLine f w t → hasWidth (rowOf f t) w ≡ false
     from (by-itself b) = ap (λ (r : RowStep). hasWidth r w) (bad-exactly f t .1 b)
     from (other-width v p n) = ap (λ (r : RowStep). hasWidth r w) p ∙ ne-eqb v w n
+
+-- The same in one sentence each: of a line by itself, and of one behind a first row of width w.
+pub line-exactly : (f : Format) (t : List ℕ) → BadLine f t ↔ ((length t ≡ 0) ⊎ (f .«max_length» < length t) ⊎ (all (legalByte (f .hardblank .0)) (row t) ≡ false))
+line-exactly f t = (to, λ w. ⊎-elim empty (λ v. ⊎-elim long low v) w)
+  where
+    to : BadLine f t → (length t ≡ 0) ⊎ (f .«max_length» < length t) ⊎ (all (legalByte (f .hardblank .0)) (row t) ≡ false)
+    to (empty e) = inl e
+    to (long h) = inr (inl h)
+    to (low e) = inr (inr e)
+
+pub row-exactly : (f : Format) (w : ℕ) (t : List ℕ) →
+    BadRowLine f w t ↔ ((length t ≡ 0) ⊎ (f .«max_length» < length t) ⊎ (length (row t) ≡ w → ⊥) ⊎ (all (legalByte (f .hardblank .0)) (row t) ≡ false))
+row-exactly f w t = (to, λ x. ⊎-elim (λ e. by-itself (empty e)) (λ y. ⊎-elim (λ h. by-itself (long h)) (λ z. ⊎-elim (λ n. width-exactly f w t .0 (differs n (rowOf f t) refl)) (λ e. by-itself (low e)) z) y) x)
+  where
+    self : BadLine f t → (length t ≡ 0) ⊎ (f .«max_length» < length t) ⊎ (length (row t) ≡ w → ⊥) ⊎ (all (legalByte (f .hardblank .0)) (row t) ≡ false)
+    self (empty e) = inl e
+    self (long h) = inr (inl h)
+    self (low e) = inr (inr (inr e))
+
+    to : BadRowLine f w t → (length t ≡ 0) ⊎ (f .«max_length» < length t) ⊎ (length (row t) ≡ w → ⊥) ⊎ (all (legalByte (f .hardblank .0)) (row t) ≡ false)
+    to (by-itself b) = self b
+    to (other-width v p n) = inr (inr (inl (λ e. n (row-width f t v p ∙ e))))
+
+    differs : (length (row t) ≡ w → ⊥) → (r : RowStep) → rowOf f t ≡ r → hasWidth r w ≡ false
+    differs n (Width v) p = ne-eqb v w (λ e. n (sym (row-width f t v p) ∙ e))
+    differs n BadRow p = refl

@@ -4,6 +4,7 @@ pub mod LookUpLaws
 pub mod RowLaws
 pub mod MapCases
 pub mod DrawCases
+pub mod DrawLaws
 pub mod ToldApart
 pub mod Wiping
 pub mod Promises

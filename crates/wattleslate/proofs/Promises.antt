@@ -1,21 +1,22 @@
 -- The promises: every sentence of the three demands and every row of the refusal table, in the papers' order, each as a theorem about the
--- definitions that the contracts of the public calls cite. A statement stands here in full; its proof is one line that cites the law, so that what
--- lies behind need not be opened.
+-- definitions that the contracts of the public calls cite. A statement stands here in full, but for a few data types of the crates below that it names:
+-- how far the lines of a file are good (`Comes`, `Reaches`), how characters stand (`InOrder`, `EachTagged`), `Last`, `NoneFits` and `Fails`. Its proof is one
+-- line that cites the law, so that what lies behind need not be opened.
 -- Assumes nothing.
 use mathlib.Core.Path.{_≡_, ap}
 use mathlib.Core.Bool.{Bool, true, false}
 use mathlib.Core.List.{List, [], _∷_, _++_, map}
-use mathlib.Core.Logic.{_⊎_, _↔_}
-use mathlib.Core.Option.{Option, some}
+use mathlib.Core.Logic.{_⊎_, _↔_, Iff·trans}
+use mathlib.Core.Option.{some}
 use Prim.Native.Nat.{ℕ, suc, _+_, _-_, _*_, _≤_, _<_, min}
-use mir.Syntax.{w32}
-use mir.Val.{SFits}
-use lib.IntN.{ℤ, pos}
+use lib.IntN.{ℤ, pos, natAbs, _-ℤ_}
+use lib.Signed.{leZ}
 use lib.ListN.{length, getD, take, drop, replicate}
 use Rattle.ground.specs.Area.{zeros}
-use Rattle.ground.specs.Text.{byte}
-use Rattle.ground.specs.Limits.{maxFontLength, maxControlFile, maxText, maxLineWidth, maxHeight, maxCharacters, maxCommands, minScratch}
-use Rattle.ground.specs.Refusals.{refusal, fontTooLong, noSignature, badHardblank, badParameters, tooManyCharacters, areaTooSmall, controlFileTooLong, notACommand, badRanges, extendedCommand, tooManyCommands, textTooLong, lineTooWide, badShape}
+use Rattle.ground.specs.Runs.{run, all, begins}
+use Rattle.ground.specs.Text.{byte, bytes, among}
+use Rattle.ground.specs.Limits.{maxFontLength, maxControlFile, maxText, maxLineWidth, maxHeight, maxCharacterWidth, maxRules, maxCharacters, maxCommands, maxStages, minScratch}
+use Rattle.ground.specs.Refusals.{refusal, fontTooLong, noSignature, badHardblank, badParameters, missingLine, badRow, badCodeTag, tooManyCharacters, areaTooSmall, controlFileTooLong, notACommand, badRanges, extendedCommand, tooManyCommands, textTooLong, lineTooWide, badShape}
 use Rattle.ground.specs.declared.refusals.Refusal.{Refusal}
 use Rattle.subchars.specs.declared.Code.{Code}
 use Rattle.subchars.specs.declared.SubCharacter.{SubCharacter}
@@ -23,30 +24,40 @@ use Rattle.subchars.specs.declared.Direction.{Direction}
 use Rattle.subchars.specs.declared.Layout.{Layout}
 use Rattle.subchars.specs.declared.Layout.the-variants.{FullWidth, Fitting, Smushing}
 use Rattle.subchars.specs.declared.Smushing.{Smushing as Kind}
-use Rattle.subchars.specs.declared.Smushing.the-variants.{Controlled}
+use Rattle.subchars.specs.declared.Smushing.the-variants.{Universal, Controlled}
 use Rattle.subchars.specs.declared.Mode.{Mode}
 use Rattle.subchars.specs.declared.Rule.{Rule}
 use Rattle.subchars.specs.declared.Joint.the-variants.{ByRule}
-use Rattle.subchars.specs.Pair.{blank, joins, inSet, byRule, controlled, EveryRuleOf}
+use Rattle.subchars.specs.Pair.{legalHardblank, blank, joins, inSet, byRule, controlled, EveryRuleOf}
 use Rattle.subchars.proofs.Rules as rules
 use Rattle.subchars.proofs.Joints as joints
 use Rattle.lanes.specs.Overlap.{hasBlank, free}
 use Rattle.lanes.proofs.Smushing.{Fails}
 use Rattle.join.specs.Join.{Block, exactBlock, leftOf, rightOf, overlap, pairByte, besides}
-use Rattle.join.specs.JoinCall.{JoinTold, refusing, joinTold, joinArea}
+use Rattle.join.specs.declared.JoinAnswer.{JoinAnswer}
+use Rattle.join.specs.declared.JoinAnswer.the-variants as join-is
+use Rattle.join.specs.JoinCall.{joinTells, joinTold, joinArea}
 use Rattle.join.proofs.Demand as demand
 use Rattle.join.proofs.Answers as joining
-use Rattle.join.proofs.Answers.{BadShape}
 use Rattle.join.proofs.Bytes.{joined-byte}
 use Rattle.figure.specs.declared.DrawAnswer.{DrawAnswer}
+use Rattle.figure.specs.declared.DrawAnswer.the-variants as draw-is
 use Rattle.figure.specs.Line.{attached, empty, blanked, shown}
 use Rattle.figure.proofs.Folding.{first-whole}
 use Rattle.join.specs.Writing.{Like}
-use Rattle.lines.specs.Lines.{linesFrom, after, textAt}
+use Rattle.lines.specs.Lines.{TextLine, linesFrom, textAt}
+use Rattle.lines.specs.Words.{isBlank, firstWord, afterBlanks}
+use Rattle.lines.specs.Numbers.{codeNumber}
+use Rattle.lines.specs.declared.numbers.CodeNumber.the-variants.{Named, NotCode}
 use Rattle.header.specs.declared.Header.{Header}
+use Rattle.header.specs.declared.Parameters.{Parameters}
+use Rattle.header.specs.declared.ParameterStep.the-variants.{All}
+use Rattle.header.specs.Header.{fontSignature, parameterNumbers, parameters, legalParameters}
 use Rattle.chars.specs.declared.Entry.{Entry}
-use Rattle.chars.specs.Codes.{code, requiredCodes, requiredCount}
-use Rattle.rows.specs.Rows.{row}
+use Rattle.chars.specs.declared.TagStep.the-variants.{Tag}
+use Rattle.chars.specs.Codes.{code, requiredCodes, requiredCount, noCode, tagOf}
+use Rattle.chars.specs.Chars.{blankLines}
+use Rattle.rows.specs.Rows.{row, legalByte}
 use Rattle.chars.proofs.OrderLaws.{InOrder, EachTagged}
 use Rattle.index.specs.declared.Found.{Found}
 use Rattle.index.specs.declared.Found.the-variants.{At, Nowhere}
@@ -55,29 +66,43 @@ use Rattle.index.proofs.FindLaws as looking
 use Rattle.index.proofs.FindLaws.{Last}
 use Rattle.font.specs.Font.{says, refuses, format, reading}
 use Rattle.font.proofs.ReadingLaws as fonts
-use Rattle.font.proofs.RefusalLaws as fonts-refused
-use Rattle.font.proofs.RefusalLaws.{FontStops}
+use Rattle.font.proofs.Comes.{Comes, comments, character, first-row, more-rows}
+use Rattle.font.proofs.TableLaws as font-rows
 use Rattle.entries.specs.Filling.{fontReading, zeroEntry, indexOf}
 use Rattle.entries.proofs.RefusalLaws as index
+use Rattle.reader.specs.declared.Use.the-variants.{Nothing}
+use Rattle.reader.specs.Reader.{used}
+use Rattle.commands.specs.declared.fields.Form.{Form}
+use Rattle.commands.specs.declared.fields.Form.the-variants.{Characters, Numbers}
+use Rattle.commands.specs.declared.fields.Codes.{Codes}
+use Rattle.commands.specs.declared.fields.Codes.the-variants.{One, Range}
+use Rattle.commands.specs.declared.fields.FieldStep.the-variants.{Field}
+use Rattle.commands.specs.Fields.{field, endsField, goodRanges}
 use Rattle.flc.specs.declared.Command.{Command}
 use Rattle.flc.specs.Control as flc
 use Rattle.flc.specs.Lists.{CommandLists, commandLists, listsOf, roomOf, controlReading}
 use Rattle.flc.specs.Mapping.{fits, newCode, throughStage, mapStages}
 use Rattle.flc.proofs.LentLaws as lent-lists
 use Rattle.flc.proofs.RefusalLaws as controls
-use Rattle.flc.proofs.RefusalLaws.{ControlStops}
+use Rattle.flc.proofs.TableLaws as control-rows
+use Rattle.flc.proofs.TableLaws.{Reaches}
 use Rattle.flc.proofs.MappingLaws as mapping
 use Rattle.flc.proofs.MappingLaws.{NoneFits}
 use Rattle.source.specs.Source.{Source}
-use Rattle.drawing.specs.Drawing.{drawLined, lineOf, textCodes}
+use Rattle.drawing.specs.Drawing.{fontLine, lineOf, textCodes}
 use Rattle.drawing.specs.Steps.{withCharacter}
 use Rattle.drawing.proofs.Answers as drawing
-use Rattle.drawing.proofs.Answers.{FilesRead, lineBy, bytesBy, DrawsTo}
 use Rattle.drawing.proofs.DrawingLaws as drawings
-use Rattle.request.proofs.RequestLaws.{BadRequest}
 use Rattle.wattleslate.specs.declared.RowRefusal.the-variants.{NotRefused, Refused}
 use Rattle.wattleslate.specs.RowCall.{rowTells, rowTold, rowBytes}
-use Rattle.wattleslate.specs.DrawCall.{drawTold, drawOutput}
+use Rattle.wattleslate.specs.declared.LookUpAnswer.the-variants as look-up-is
+use Rattle.wattleslate.specs.LookUpCall.{lookUpTells, lookUpTold}
+use Rattle.wattleslate.specs.declared.MapAnswer.the-variants as map-is
+use Rattle.wattleslate.specs.MapCall.{mapTells, mapTold}
+use Rattle.wattleslate.specs.DrawCall.{drawTells, drawTold, drawOutput}
+use Rattle.wattleslate.proofs.LookUpLaws as look-ups
+use Rattle.wattleslate.proofs.MapCases as mappings
+use Rattle.wattleslate.proofs.DrawLaws as draw-calls
 use Rattle.wattleslate.proofs.RowLaws as row-calls
 use Rattle.wattleslate.proofs.Wiping as wiping
 
@@ -102,53 +127,288 @@ draw-wiped = wiping.draw-wiped
 
 -- ================================================================ demand 2: the refusal table
 
+-- 1 to 8, of a font s.
 module _ (s : List ℕ) where
-  -- 1 to 8: `FontStops` names each with what it is given for and its place, in the table's order: 1; of the first line 2, 3, 4; then 5 to 8 at the line where they
-  -- are met, comment lines that run out included; on one tag line 7 before 8. A font is refused exactly so.
-  refusals-1-to-8 : (r : Refusal) → reading s ≡ refuses r ↔ FontStops s r
-  refusals-1-to-8 = fonts-refused.font-exactly s
+  -- The first line, without its end; it is empty where the font is.
+  abbrev firstLine : List ℕ
+  firstLine = textAt s 0
+
+  abbrev behindFlf2a : List ℕ
+  behindFlf2a = drop (length fontSignature) firstLine
+
+  -- 1, "font too long", at 0.
+  refusal-1 : (p : ℕ) → reading s ≡ refuses (refusal fontTooLong p) ↔ ((p ≡ 0) × (maxFontLength < length s))
+  refusal-1 = font-rows.row-1 s
+
+  -- 2, "first line does not begin with flf2a", at 0.
+  refusal-2 : (p : ℕ) → reading s ≡ refuses (refusal noSignature p) ↔ ((p ≡ 0) × (length s ≤ maxFontLength) × (begins fontSignature firstLine ≡ false))
+  refusal-2 = font-rows.row-2 s
+
+  -- 3, "hardblank absent, or blank, CR, LF, NUL", at 0.
+  refusal-3 : (p : ℕ) →
+      reading s ≡ refuses (refusal badHardblank p) ↔
+      ((p ≡ 0) × (length s ≤ maxFontLength) × (begins fontSignature firstLine ≡ true) ×
+      ((behindFlf2a ≡ []) ⊎
+      ((h : ℕ) × (rest : List ℕ) × (behindFlf2a ≡ h ∷ rest) × (legalHardblank h ≡ false))))
+  refusal-3 = font-rows.row-3 s
+
+  -- 4, "no blank or tab after the hardblank, under five numbers, or a value out of range", at 0.
+  refusal-4 : (p : ℕ) →
+      reading s ≡ refuses (refusal badParameters p) ↔
+      ((p ≡ 0) × (length s ≤ maxFontLength) × (begins fontSignature firstLine ≡ true) ×
+      (h : ℕ) × (rest : List ℕ) × (behindFlf2a ≡ h ∷ rest) × (legalHardblank h ≡ true) ×
+      ((rest ≡ []) ⊎
+      ((x : ℕ) × (more : List ℕ) × (rest ≡ x ∷ more) ×
+      ((isBlank x ≡ false) ⊎
+      (length (parameterNumbers more) < 5) ⊎
+      ((v : Parameters) × (parameters (parameterNumbers more) ≡ All v) × (legalParameters v ≡ false))))))
+  refusal-4 = font-rows.row-4 s
+
+  -- "Then 5 to 8 as met line by line": `Comes s h due ls` says how far the lines of the font, whose header is h, are good: what is due next, and the lines ls that
+  -- remain (crates/font/proofs/Comes.antt). Due are k comment lines (`comments k`), a character before which n stand (`character n`), its first row (`first-row n`),
+  -- or k more rows of it, of width w (`more-rows n k w`).
+
+  -- 5, "font ends before a needed line", at the "font length": no line remains where a comment line, a first row or another row is due.
+  refusal-5 : (p : ℕ) →
+      reading s ≡ refuses (refusal missingLine p) ↔
+      ((p ≡ length s) × (h : Header) ×
+      (((k : ℕ) × Comes s h (comments (suc k)) []) ⊎
+      ((n : ℕ) × Comes s h (first-row n) []) ⊎
+      ((n k w : ℕ) × Comes s h (more-rows n (suc k) w) [])))
+  refusal-5 = font-rows.row-5 s
+
+  -- 6, "bad row", at the "start of that line": "the line is empty, is longer than Max_Length with its marks, its row differs in width from the character's first row, or
+  -- its row holds a byte under 32 that is not the hardblank". A first row has no other to differ from.
+  refusal-6 : (p : ℕ) →
+      reading s ≡ refuses (refusal badRow p) ↔
+      ((h : Header) × (l : TextLine) × (ls : List TextLine) × (p ≡ l .start) ×
+      (((n : ℕ) × Comes s h (first-row n) (l ∷ ls) ×
+      ((length (l .text) ≡ 0) ⊎
+      (h .«max_length» < length (l .text)) ⊎
+      (all (legalByte (h .hardblank .0)) (row (l .text)) ≡ false))) ⊎
+      ((n k w : ℕ) × Comes s h (more-rows n (suc k) w) (l ∷ ls) ×
+      ((length (l .text) ≡ 0) ⊎
+      (h .«max_length» < length (l .text)) ⊎
+      (length (row (l .text)) ≡ w → ⊥) ⊎
+      (all (legalByte (h .hardblank .0)) (row (l .text)) ≡ false)))))
+  refusal-6 = font-rows.row-6 s
+
+  -- 7, "bad code tag", at the "start of that line": behind the required characters, where more remains than "blanks, tabs and line ends", the first word is no number within
+  -- signed 32 bits, or it is -1.
+  refusal-7 : (p : ℕ) →
+      reading s ≡ refuses (refusal badCodeTag p) ↔
+      ((h : Header) × (n : ℕ) × (l : TextLine) × (ls : List TextLine) × (p ≡ l .start) ×
+      Comes s h (character n) (l ∷ ls) × (requiredCount ≤ n) × (blankLines (l ∷ ls) ≡ false) ×
+      ((codeNumber (firstWord (l .text)) ≡ NotCode) ⊎
+      (codeNumber (firstWord (l .text)) ≡ Named noCode)))
+  refusal-7 = font-rows.row-7 s
+
+  -- 8, "a 513th character", at the "start of its tag line"; "on one tag line 7 before 8": the tag is a code.
+  refusal-8 : (p : ℕ) →
+      reading s ≡ refuses (refusal tooManyCharacters p) ↔
+      ((h : Header) × (n : ℕ) × (l : TextLine) × (ls : List TextLine) × (p ≡ l .start) ×
+      Comes s h (character n) (l ∷ ls) × (maxCharacters ≤ n) × (blankLines (l ∷ ls) ≡ false) ×
+      (c : Code) × (tagOf (l .text) ≡ Tag c))
+  refusal-8 = font-rows.row-8 s
 
   -- A font has no refusal but 1 to 8, and none names a place beyond its end.
   font-refusals : (r : Refusal) → reading s ≡ refuses r → (fontTooLong ≤ r .number) × (r .number ≤ tooManyCharacters) × (r .place ≤ length s) × (r .place ≤ maxFontLength)
   font-refusals = fonts.font-refusal s
 
-  -- 9 for an index: "9 (index under 512 entries), 1, 2, ..".
+  -- 9, "a lent area is too small", at 0. "Reading a font: 9 (index under 512 entries), 1, 2, ..".
   refusal-9-of-read-font : (room p : ℕ) → fontReading room s ≡ refuses (refusal areaTooSmall p) ↔ ((p ≡ 0) × (room < maxCharacters))
   refusal-9-of-read-font room = index.refused-9 s room
 
   font-refusals-of-read-font : (room : ℕ) (r : Refusal) → r .number ≤ tooManyCharacters → fontReading room s ≡ refuses r ↔ ((maxCharacters ≤ room) × (reading s ≡ refuses r))
   font-refusals-of-read-font room = index.refused-font s room
 
-  -- 9 for the lists of a control file: "9 (room for under 256 commands), 10, then 11 to 14 as met".
+-- The forms of a line t of a control file. "Lines beginning #, empty lines and lines of only blanks and tabs are comments."
+abbrev IsComment : List ℕ → Type 0
+IsComment t = (all isBlank t ≡ true) ⊎ ((xs : List ℕ) × (t ≡ byte "#" ∷ xs))
+
+-- "A line whose first byte is h, j, b, u or g."
+abbrev IsExtended : List ℕ → Type 0
+IsExtended t = (x : ℕ) × (xs : List ℕ) × (t ≡ x ∷ xs) × (among (bytes "hjbug") x ≡ true)
+
+-- "`f`, rest ignored."
+abbrev IsStage : List ℕ → Type 0
+IsStage t = (xs : List ℕ) × (t ≡ byte "f" ∷ xs)
+
+-- "At least one blank or tab stands .. between the two fields; after the second only the line end, a blank or a tab may follow": fields of n and m bytes.
+abbrev TwoFields : Form → List ℕ → Codes → Codes → Type 0
+TwoFields form t one two =
+    (n m : ℕ) × (field form t ≡ Field one n) × (0 < run isBlank (drop n t)) ×
+    (field form (afterBlanks (drop n t)) ≡ Field two m) × (endsField (drop m (afterBlanks (drop n t))) ≡ true)
+
+-- "At least one blank or tab stands after `t`."
+abbrev Translates : List ℕ → Codes → Codes → Type 0
+Translates t one two = (xs : List ℕ) × (t ≡ byte "t" ∷ xs) × (0 < run isBlank xs) × (TwoFields Characters (afterBlanks xs) one two)
+
+-- "`t` with two single characters, or with two ranges; two numbers."
+abbrev IsMapping : List ℕ → Code → Code → Code → Type 0
+IsMapping t first last firstNew =
+    ((last ≡ first) × (Translates t (One first) (One firstNew))) ⊎
+    ((lastNew : Code) × (Translates t (Range first last) (Range firstNew lastNew)) × (goodRanges first last firstNew lastNew ≡ true)) ⊎
+    ((last ≡ first) × (TwoFields Numbers t (One first) (One firstNew)))
+
+-- Two ranges, and "range sizes differ, or first above last".
+abbrev IsBadRanges : List ℕ → Type 0
+IsBadRanges t =
+    (first last firstNew lastNew : Code) × (Translates t (Range first last) (Range firstNew lastNew)) ×
+    ((leZ (first .0) (last .0) ≡ false) ⊎
+    (leZ (firstNew .0) (lastNew .0) ≡ false) ⊎
+    (natAbs (last .0 -ℤ first .0) ≡ natAbs (lastNew .0 -ℤ firstNew .0) → ⊥))
+
+-- 10 to 14, of a control file s.
+module _ (s : List ℕ) where
+  -- 9: "Reading a control file: 9 (room for under 256 commands), 10, then 11 to 14 as met".
   refusal-9-of-read-control : (lent : CommandLists) (p : ℕ) → controlReading lent s ≡ flc.refuses (refusal areaTooSmall p) ↔ ((p ≡ 0) × (roomOf lent < maxCommands))
   refusal-9-of-read-control lent = lent-lists.refused-9 lent s
 
   control-refusals-of-read-control : (lent : CommandLists) (r : Refusal) → controlFileTooLong ≤ r .number → controlReading lent s ≡ flc.refuses r ↔ ((maxCommands ≤ roomOf lent) × (flc.control s ≡ flc.refuses r))
   control-refusals-of-read-control lent = lent-lists.refused-file lent s
 
-  -- 10 to 14: `ControlStops` names each with what it is given for and its place: 10; then 11 to 14 at the first line that is refused, at its start. A control file is
-  -- refused exactly so.
-  refusals-10-to-14 : (r : Refusal) → flc.control s ≡ flc.refuses r ↔ ControlStops s r
-  refusals-10-to-14 = controls.control-exactly s
+  -- 10, "control file too long", at 0.
+  refusal-10 : (p : ℕ) → flc.control s ≡ flc.refuses (refusal controlFileTooLong p) ↔ ((p ≡ 0) × (maxControlFile < length s))
+  refusal-10 = control-rows.row-10 s
 
--- 9, the font's, the control file's, 15, 16, 9 of draw, and its success: the answer is one of those that `DrawsTo` names, and what it names for an answer gives it.
-draw-answers : (size : ℕ) (s control text : List ℕ) (room : ℕ) → DrawsTo size s control text room (drawing.answer size s control text room)
-draw-answers = drawing.one-of
+  -- "Then 11 to 14 as met": `Reaches s stage n ls` says that the lines before ls are good, and which stage and how many commands they come to (crates/flc/proofs/TableLaws.antt).
 
-draw-answers-only-so : (size : ℕ) (s control text : List ℕ) (room : ℕ) (a : DrawAnswer) → DrawsTo size s control text room a → drawing.answer size s control text room ≡ a
-draw-answers-only-so = drawing.gives
+  -- 11, "not a command", at the "start of that line": a line of none of these forms.
+  refusal-11 : (p : ℕ) →
+      flc.control s ≡ flc.refuses (refusal notACommand p) ↔
+      ((stage n : ℕ) × (l : TextLine) × (ls : List TextLine) × (p ≡ l .start) × Reaches s stage n (l ∷ ls) ×
+      (IsComment (l .text) → ⊥) × (IsExtended (l .text) → ⊥) × (IsStage (l .text) → ⊥) × ((a b c : Code) → IsMapping (l .text) a b c → ⊥) × (IsBadRanges (l .text) → ⊥))
+  refusal-11 = control-rows.row-11 s
 
--- 17, 16, 9 of join, and its success: likewise by `JoinsTo`.
+  -- 12, "range sizes differ, or first above last", at the "start of that line".
+  refusal-12 : (p : ℕ) →
+      flc.control s ≡ flc.refuses (refusal badRanges p) ↔
+      ((stage n : ℕ) × (l : TextLine) × (ls : List TextLine) × (p ≡ l .start) × Reaches s stage n (l ∷ ls) × (IsBadRanges (l .text)))
+  refusal-12 = control-rows.row-12 s
+
+  -- 13, "a line whose first byte is h, j, b, u or g (never 11)", at the "start of that line".
+  refusal-13 : (p : ℕ) →
+      flc.control s ≡ flc.refuses (refusal extendedCommand p) ↔
+      ((stage n : ℕ) × (l : TextLine) × (ls : List TextLine) × (p ≡ l .start) × Reaches s stage n (l ∷ ls) × (IsExtended (l .text)))
+  refusal-13 = control-rows.row-13 s
+
+  -- 14, "a 257th command or 65th stage", at the "start of that line".
+  refusal-14 : (p : ℕ) →
+      flc.control s ≡ flc.refuses (refusal tooManyCommands p) ↔
+      ((stage n : ℕ) × (l : TextLine) × (ls : List TextLine) × (p ≡ l .start) × Reaches s stage n (l ∷ ls) ×
+      (((a b c : Code) × (IsMapping (l .text) a b c) × (maxCommands ≤ n)) ⊎
+      ((IsStage (l .text)) × (maxStages ≤ stage + 1))))
+  refusal-14 = control-rows.row-14 s
+
+  -- A control file has no refusal but 10 to 14, and none names a place beyond its end.
+  control-refusals : (r : Refusal) → flc.control s ≡ flc.refuses r → (controlFileTooLong ≤ r .number) × (r .number ≤ tooManyCommands) × (r .place ≤ length s) × (r .place ≤ maxControlFile)
+  control-refusals = controls.control-refusal s
+
+-- "Look-up .. and mapping a code: those of their file."
+refusals-of-look-up : (s : List ℕ) (c : Code) (r : Refusal) → lookUpTold s c ≡ lookUpTells (look-up-is.Refused r) ↔ reading s ≡ refuses r
+refusals-of-look-up = look-ups.look-up-refused
+
+refusals-of-map-code : (s : List ℕ) (c : Code) (r : Refusal) → mapTold s c ≡ mapTells (map-is.Refused r) ↔ flc.control s ≡ flc.refuses r
+refusals-of-map-code = mappings.map-refused
+
+-- "Drawing: 9 for all working areas (scratch under 32,000 bytes included), the font's, the control file's, 15, 16, then 9 for the output."
+module _ (size : ℕ) (s control text : List ℕ) (room : ℕ) where
+  -- The scratch is large enough, and the files say this.
+  abbrev FilesSay : Header → List Entry → List Command → ℕ → Type 0
+  FilesSay h es cs k = (minScratch ≤ size) × (reading s ≡ says h es) × (flc.control control ≡ flc.reads cs k)
+
+  -- The line of the text by what they say.
+  abbrev lineFor : Header → List Entry → List Command → ℕ → Block
+  lineFor h es cs k = fontLine s h es cs k text
+
+  abbrev Draws : DrawAnswer → Type 0
+  Draws a = drawTold size s control text room ≡ drawTells a
+
+  font-refusals-of-draw : (r : Refusal) → r .number ≤ tooManyCharacters → Draws (draw-is.Refused r) ↔ ((minScratch ≤ size) × (reading s ≡ refuses r))
+  font-refusals-of-draw r u = Iff·trans (draw-calls.told-is size s control text room _) (drawing.row-font size s control text room r u)
+
+  control-refusals-of-draw : (r : Refusal) → controlFileTooLong ≤ r .number → r .number ≤ tooManyCommands →
+      Draws (draw-is.Refused r) ↔ ((minScratch ≤ size) × (h : Header) × (es : List Entry) × (reading s ≡ says h es) × (flc.control control ≡ flc.refuses r))
+  control-refusals-of-draw r u v = Iff·trans (draw-calls.told-is size s control text room _) (drawing.row-control size s control text room r u v)
+
+  -- 9: the scratch, or else, behind all others, the output, Height rows of the width and an LF each.
+  refusal-9-of-draw : (p : ℕ) →
+      Draws (draw-is.Refused (refusal areaTooSmall p)) ↔
+      ((p ≡ 0) ×
+      ((size < minScratch) ⊎
+      ((h : Header) × (es : List Entry) × (cs : List Command) × (k : ℕ) × (FilesSay h es cs k) ×
+      (length text ≤ maxText) × (lineFor h es cs k .width ≤ maxLineWidth) × (room < h .height * (lineFor h es cs k .width + 1)))))
+  refusal-9-of-draw p = Iff·trans (draw-calls.told-is size s control text room _) (drawing.row-9 size s control text room p)
+
+  -- 15, "text too long", at 0.
+  refusal-15 : (p : ℕ) →
+      Draws (draw-is.Refused (refusal textTooLong p)) ↔
+      ((p ≡ 0) × (h : Header) × (es : List Entry) × (cs : List Command) × (k : ℕ) × (FilesSay h es cs k) × (maxText < length text))
+  refusal-15 p = Iff·trans (draw-calls.told-is size s control text room _) (drawing.row-15 size s control text room p)
+
+  -- 16, "drawn line wider than 1,000", at 0.
+  refusal-16-of-draw : (p : ℕ) →
+      Draws (draw-is.Refused (refusal lineTooWide p)) ↔
+      ((p ≡ 0) × (h : Header) × (es : List Entry) × (cs : List Command) × (k : ℕ) × (FilesSay h es cs k) ×
+      (length text ≤ maxText) × (maxLineWidth < lineFor h es cs k .width))
+  refusal-16-of-draw p = Iff·trans (draw-calls.told-is size s control text room _) (drawing.row-16 size s control text room p)
+
+  -- Otherwise "the answer gives the width".
+  draws-otherwise : (w : ℕ) →
+      Draws (draw-is.Drawn w) ↔
+      ((h : Header) × (es : List Entry) × (cs : List Command) × (k : ℕ) × (FilesSay h es cs k) ×
+      (length text ≤ maxText) × (lineFor h es cs k .width ≤ maxLineWidth) × (h .height * (lineFor h es cs k .width + 1) ≤ room) × (w ≡ lineFor h es cs k .width))
+  draws-otherwise w = Iff·trans (draw-calls.told-is size s control text room _) (drawing.row-drawn size s control text room w)
+
+-- "Join: 17, 16, 9."
 module _ (y : Mode) (h n : ℕ) (line : List ℕ) (m : ℕ) (character : List ℕ) (room : ℕ) where
-  join-answers : joining.JoinsTo y h n line m character room (joinTold y h n line m character room)
-  join-answers = joining.one-of y h n line m character room
+  -- "Writing left to right the line is the left block, otherwise the character."
+  abbrev leftBlock : Block
+  leftBlock = leftOf (y .direction) (exactBlock n line) (exactBlock m character)
 
-  join-answers-only-so : (t : JoinTold) → joining.JoinsTo y h n line m character room t → joinTold y h n line m character room ≡ t
-  join-answers-only-so = joining.gives y h n line m character room
+  abbrev rightBlock : Block
+  rightBlock = rightOf (y .direction) (exactBlock n line) (exactBlock m character)
 
--- 17 of a row request: "a row number at or above Height, or a code with neither drawing nor stand-in", after the font's refusals.
+  abbrev resultWidth : ℕ
+  resultWidth = besides y h leftBlock rightBlock .width
+
+  abbrev Joins : JoinAnswer → Type 0
+  Joins a = joinTold y h n line m character room ≡ joinTells a
+
+  -- 17, "join .. of bad shape": "height outside 1 to 32, line width over 1,000, character width over 199, rules outside 1 to 63 in controlled mode, a hardblank that 3 refuses,
+  -- or blocks not exactly height times width long".
+  abbrev ShapeBad : Type 0
+  ShapeBad =
+      (h < 1) ⊎
+      (maxHeight < h) ⊎
+      (maxLineWidth < n) ⊎
+      (maxCharacterWidth < m) ⊎
+      ((rules : ℕ) × (y .layout ≡ Smushing (Controlled rules)) × ((rules < 1) ⊎ (maxRules < rules))) ⊎
+      (legalHardblank (y .hardblank .0) ≡ false) ⊎
+      (length line ≡ h * n → ⊥) ⊎
+      (length character ≡ h * m → ⊥)
+
+  refusal-17-of-join : (p : ℕ) → Joins (join-is.Refused (refusal badShape p)) ↔ ((p ≡ 0) × ShapeBad)
+  refusal-17-of-join = joining.row-17 y h n line m character room
+
+  -- 16, "drawn line wider than 1,000", at 0.
+  refusal-16-of-join : (p : ℕ) → Joins (join-is.Refused (refusal lineTooWide p)) ↔ ((p ≡ 0) × (ShapeBad → ⊥) × (maxLineWidth < resultWidth))
+  refusal-16-of-join = joining.row-16 y h n line m character room
+
+  -- 9, "a lent area is too small", at 0.
+  refusal-9-of-join : (p : ℕ) → Joins (join-is.Refused (refusal areaTooSmall p)) ↔ ((p ≡ 0) × (ShapeBad → ⊥) × (resultWidth ≤ maxLineWidth) × (room < h * resultWidth))
+  refusal-9-of-join = joining.row-9 y h n line m character room
+
+  -- Otherwise "it answers the overlap and the result width".
+  joins-otherwise : (o w : ℕ) →
+      Joins (join-is.Joined o w) ↔ ((ShapeBad → ⊥) × (resultWidth ≤ maxLineWidth) × (h * resultWidth ≤ room) × (o ≡ overlap y h leftBlock rightBlock) × (w ≡ resultWidth))
+  joins-otherwise = joining.row-joined y h n line m character room
+
+-- 17, "row request of bad shape": "a row number at or above Height, or a code with neither drawing nor stand-in", after the font's refusals.
 module _ (s : List ℕ) (c : Code) (r : ℕ) where
-  refusal-17-of-row : (p : ℕ) → rowTold s c r ≡ rowTells (Refused (refusal badShape p)) ↔ ((p ≡ 0) × BadRequest s c r)
+  refusal-17-of-row : (p : ℕ) →
+      rowTold s c r ≡ rowTells (Refused (refusal badShape p)) ↔ ((p ≡ 0) × ((h : Header) × (es : List Entry) × (reading s ≡ says h es) × ((h .height ≤ r) ⊎ (used c es ≡ Nothing))))
   refusal-17-of-row = row-calls.told-17 s c r
 
   font-refusals-of-row : (q : Refusal) → q .number ≤ tooManyCharacters → rowTold s c r ≡ rowTells (Refused q) ↔ reading s ≡ refuses q
@@ -201,7 +461,7 @@ rule-of-the-set-joins : (set h l r : ℕ) (rule : Rule) (x : ℕ) → inSet set 
 rule-of-the-set-joins = rules.controlled-by
 
 -- "Universal joins every pair."
-universal-joins-every-pair : (direction : Direction) (hardblank : SubCharacter) (l r : ℕ) → joins (joints.universally direction hardblank) l r ≡ true
+universal-joins-every-pair : (direction : Direction) (hardblank : SubCharacter) (l r : ℕ) → joins (record { layout = Smushing Universal; direction = direction; hardblank = hardblank }) l r ≡ true
 universal-joins-every-pair = joints.universal-joins
 
 -- ================================================================ demand 3
@@ -313,18 +573,18 @@ first-character-whole : (y : Mode) (h : ℕ) (c : Block) → Like h (attached y 
 first-character-whole = first-whole
 
 -- "The output is each row with hardblanks as blanks, then LF": of a text that is drawn,
-module _ (size : ℕ) (s control text : List ℕ) (room : ℕ) (x : FilesRead size s control text room) where
+module _ (size : ℕ) (s control text : List ℕ) (room : ℕ) (h : Header) (es : List Entry) (cs : List Command) (k : ℕ) (say : FilesSay size s control text room h es cs k) where
   abbrev line : Block
-  line = lineBy size s control text room x
+  line = lineFor size s control text room h es cs k
 
-  module _ (t : length text ≤ maxText) (w : line .width ≤ maxLineWidth) (m : bytesBy size s control text room x ≤ room) where
-    draw-byte : (r k : ℕ) → r < x .header .height → k < line .width → getD (drawOutput size s control text room) (r * (line .width + 1) + k) 0 ≡ blanked (x .header .hardblank .0) (line .cells r k)
+  module _ (t : length text ≤ maxText) (w : line .width ≤ maxLineWidth) (m : h .height * (line .width + 1) ≤ room) where
+    draw-byte : (r i : ℕ) → r < h .height → i < line .width → getD (drawOutput size s control text room) (r * (line .width + 1) + i) 0 ≡ blanked (h .hardblank .0) (line .cells r i)
     unfolding drawOutput
-    draw-byte = drawing.output-byte size s control text room x t w m
+    draw-byte = drawing.output-byte size s control text room (drawing.files size s control text room h es cs k say) t w m
 
-    draw-lf : (r : ℕ) → r < x .header .height → getD (drawOutput size s control text room) (r * (line .width + 1) + line .width) 0 ≡ byte "\n"
+    draw-lf : (r : ℕ) → r < h .height → getD (drawOutput size s control text room) (r * (line .width + 1) + line .width) 0 ≡ byte "\n"
     unfolding drawOutput
-    draw-lf = drawing.output-lf size s control text room x t w m
+    draw-lf = drawing.output-lf size s control text room (drawing.files size s control text room h es cs k say) t w m
 
 -- "Empty text gives Height LFs."
 empty-text : (hardblank h : ℕ) → shown hardblank h empty ≡ replicate h (byte "\n")

@@ -19,7 +19,7 @@ use Rattle.request.specs.declared.Requested.{Requested}
 use Rattle.request.specs.declared.Requested.the-variants as requested-is
 use Rattle.request.specs.Request.{rowRequest}
 use Rattle.request.proofs.RowLaws.{used-stands}
-use Rattle.request.proofs.RequestLaws.{Given, row-fits, row-only, row-if, BadRequest, refused-17, refused-font, refused-some}
+use Rattle.request.proofs.RequestLaws.{Given, row-fits, row-only, row-if, RequestBad, refused-17, refused-font, refused-some}
 use Rattle.wattleslate.specs.declared.RowRefusal.the-variants.{NotRefused, Refused}
 use Rattle.wattleslate.specs.RowCall.{RowTold, partOf, rowBytes, LiesAt, rowTells, requestTold, rowTold}
 use Rattle.wattleslate.proofs.ToldApart.{row-apart}
@@ -104,7 +104,7 @@ module _ (s : List ℕ) (c : Code) (r : ℕ) where
   told-font q h = (λ e. refused-font s c r q h .0 (told-refused q e), λ m. refused-told q (refused-font s c r q h .1 m))
 
   -- 17, "join or row request of bad shape", exactly then, at 0.
-  pub told-17 : (p : ℕ) → rowTold s c r ≡ rowTells (Refused (refusal badShape p)) ↔ ((p ≡ 0) × BadRequest s c r)
+  pub told-17 : (p : ℕ) → rowTold s c r ≡ rowTells (Refused (refusal badShape p)) ↔ ((p ≡ 0) × RequestBad s c r)
   told-17 p = (λ e. refused-17 s c r p .0 (told-refused (refusal badShape p) e), λ w. refused-told (refusal badShape p) (refused-17 s c r p .1 w))
 
   -- "A row request gives the row as a part of the font": where the one call tells a start and a width, the other gives the part there, which lies

@@ -1,4 +1,4 @@
--- `evidence::requests` is safe and ends: each line brings the place nearer to the end.
+-- `evidence::requests` is safe and ends: each line brings the cursor nearer to the end.
 -- Assumes nothing.
 use mathlib.Core.Path.{sym, _∙_}
 use Prim.Native.Nat.{_-_}
@@ -10,17 +10,20 @@ use Rattle.evidence.proofs.requests.Statement.{statement}
 use Rattle.evidence.proofs.requests.Tie as tie
 
 abbrev Inv-loop : tie.InvT-loop
-Inv-loop t at₀ at = Unit {0}
+Inv-loop t c₀ c = Unit {0}
 
 abbrev μ-loop : tie.MeasureT-loop
-μ-loop t at₀ at = length t - at
+μ-loop t c₀ c = length t - c .at
 
 abbrev Line : Type 0
 Line = tie.After-known-told Inv-loop μ-loop
 
 -- the line that was found
-found : (c : Line) → LineFound (c .before .before .before .before .before .before .args .t .now) (c .before .before .before .before .loop .at) (c .before .start .given .0 .0) (c .before .start .given .0 .1 .0) (c .before .start .given .0 .1 .1 .0)
+found : (c : Line) → LineFound (c .before .before .before .before .before .before .before .args .t .now) (c .before .before .before .before .loop .cursor .at) (c .before .start .given .0 .0) (c .before .start .given .0 .1 .0) (c .before .start .given .0 .1 .1 .0)
 found c = line-found _ _ _ _ _ (sym (c .before .start .given .1) ∙ c .before .before .before .next .ensures)
+
+new-requires : tie.Need-new-requires Inv-loop μ-loop
+new-requires c κs = tt
 
 loop-holds : tie.Need-loop-holds Inv-loop μ-loop
 loop-holds c = tt
@@ -47,7 +50,7 @@ loop-less : tie.Need-loop-less Inv-loop μ-loop
 loop-less c =
     let l = c .before .before in
     let f = found l in
-    omega (arith, f .inside, f .further, next-more (l .before .before .before .before .before .before .args .t .now) (l .before .before .before .before .loop .at) (f .inside))
+    omega (arith, f .inside, f .further, next-more (l .before .before .before .before .before .before .before .args .t .now) (l .before .before .before .before .loop .cursor .at) (f .inside))
 
 loop-again : tie.Need-loop-again Inv-loop μ-loop
 loop-again c = tt
@@ -64,6 +67,7 @@ requests-spec =
     (tie.spec
     Inv-loop
     μ-loop
+    new-requires
     loop-holds
     next-requires
     enum-known-start

@@ -9,10 +9,10 @@ use Rattle.evidence.proofs.drawings.show_output.Statement.{statement}
 use Rattle.evidence.proofs.drawings.show_output.Tie as tie
 
 abbrev Inv-loop : tie.InvT-loop
-Inv-loop out₀ i₀ t3 t4 out i = length out ≡ length out₀
+Inv-loop out₀ i₀ out i = length out ≡ length out₀
 
 abbrev μ-loop : tie.MeasureT-loop
-μ-loop out₀ i₀ t3 t4 out i = length out - i
+μ-loop out₀ i₀ out i = length out - i
 
 loop-holds : tie.Need-loop-holds Inv-loop μ-loop
 loop-holds c = refl
@@ -35,23 +35,11 @@ loop-less c = omega (arith, c .before .before .loop-test .taken, length-set (c .
 loop-again : tie.Need-loop-again Inv-loop μ-loop
 loop-again c = length-set (c .before .before .before .loop .out) (c .before .before .before .loop .i) (c .printable .result) ∙ c .before .before .before .loop .inv
 
-slice-aggregate-text : tie.Need-slice-aggregate-text Inv-loop μ-loop
-slice-aggregate-text c = search needs
-
-text-requires : tie.Need-text-requires Inv-loop μ-loop
-text-requires c κs = tt
-
-text-requires-2 : tie.Need-text-requires-2 Inv-loop μ-loop
-text-requires-2 c κs = tt
-
-slice-aggregate-text-2 : tie.Need-slice-aggregate-text-2 Inv-loop μ-loop
-slice-aggregate-text-2 c = search needs
-
-text-requires-3 : tie.Need-text-requires-3 Inv-loop μ-loop
-text-requires-3 c κs = tt
+quoted-requires : tie.Need-quoted-requires Inv-loop μ-loop
+quoted-requires c κs = tt
 
 same-length : tie.Need-same-length Inv-loop μ-loop
-same-length c = c .before .before .before .before .before .before .before .loop .inv
+same-length c = c .before .before .before .loop .inv
 
 returns : tie.Need-returns Inv-loop μ-loop
 returns c = tt
@@ -69,10 +57,6 @@ show-output-spec =
     add-i
     loop-less
     loop-again
-    slice-aggregate-text
-    text-requires
-    text-requires-2
-    slice-aggregate-text-2
-    text-requires-3
+    quoted-requires
     same-length
     returns)
