@@ -1,4 +1,5 @@
-/* What the parts of the command share. main.c has its words and options, io.c reads and writes, refusals.c says why something was refused. */
+/* What the parts of the command share. main.c has its words and options, stack.c puts names below one another, io.c reads and writes, header.c reads
+ * the numbers of a font, refusals.c says why something was refused. */
 #ifndef CLI_H
 #define CLI_H
 
@@ -13,6 +14,12 @@ struct file {
     const char *name;
     const uint8_t *bytes;
     size_t length;
+};
+
+/* The files that drawing takes, and the height of the font. */
+struct files {
+    struct file font, control;
+    uint32_t height;
 };
 
 /* A text to draw: a name of the command line, or the line of standard input with that number, counted from 1 (0: a name). */
@@ -32,7 +39,7 @@ extern const size_t built_in_font_length;
 /* Reads a file into an area. Of a file that does not fit, as much as fits is read: who lends a byte more than the library takes lets it refuse. */
 enum status load(struct file *file, const char *name, uint8_t *area, size_t room);
 
-/* The next line of standard input, which lasts until the next call. */
+/* The next line of standard input, which lasts until the second call after this one. */
 enum step next_line(struct text *text);
 
 /* Writes to standard output, at once. After a failure, which is told, nothing more is written. */
@@ -49,6 +56,25 @@ void show_string(const char *string);
 
 /* Shows a text by its first 60 bytes, or by its line of standard input. */
 void show_text(const struct text *text);
+
+/* Draws a text. The answer is the library's; the rows, each with an LF, last until the next call. */
+struct drawing {
+    uint64_t answer;
+    const uint8_t *rows;
+};
+struct drawing draw_line(const struct files *files, const struct text *text);
+
+/* Names below one another: the first two, then one more at a time, then the rows of all of them are written. A text that is refused is told, and the
+ * status REFUSED given. */
+enum status stack_two(const struct files *files, const struct text *upper, const struct text *lower);
+enum status stack_one_more(const struct files *files, const struct text *text);
+enum status put_stack(void);
+
+/* The numbers behind the hardblank of a header, in their order. */
+enum parameter { HEIGHT, BASELINE, MAX_LENGTH, OLD_LAYOUT, COMMENT_LINES, PRINT_DIRECTION, FULL_LAYOUT, CODETAG_COUNT };
+
+/* A number of the header of a font that was accepted, or false where it is absent. */
+bool header_number(const struct file *font, enum parameter parameter, int64_t *value);
 
 /* Says why a file or a text was refused, and gives the status REFUSED. */
 enum status file_refused(const struct file *file, uint64_t answer);

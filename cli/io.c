@@ -86,12 +86,13 @@ static enum step next_byte(uint8_t *byte) {
 
 /* An LF ends a line, and a last one without LF counts. Of a long line one byte more is kept than a text may have: it is still refused. */
 enum step next_line(struct text *text) {
-    static uint8_t line[WATTLESLATE_MAX_TEXT + 1];
+    static uint8_t lines[2][WATTLESLATE_MAX_TEXT + 1];
+    uint8_t *line = lines[input.lines % 2];
     size_t length = 0;
     uint8_t byte = 0;
     enum step step;
     while ((step = next_byte(&byte)) == NEXT && byte != '\n') {
-        if (length < sizeof line) {
+        if (length < sizeof lines[0]) {
             line[length++] = byte;
         }
     }

@@ -8,7 +8,7 @@
 #define VERSION "1.0"
 
 /* The words, each a bit, so that an option can name those that it belongs to. */
-enum { DRAW = 1, CHECK = 2, EVERY_WORD = ~0 };
+enum { DRAW = 1, STACK = 2, CHECK = 4, EVERY_WORD = ~0 };
 
 /* The options. What was given for each stands in a call: the value, or the option itself where it takes none; NULL if it was not given. */
 enum { FONT, CONTROL, HELP, SHOW_VERSION, OPTIONS_COUNT };
@@ -21,6 +21,7 @@ struct call {
 };
 
 static enum status draw(const struct call *call);
+static enum status stack(const struct call *call);
 static enum status check(const struct call *call);
 
 struct word {
@@ -37,6 +38,9 @@ static const struct word WORDS[] = {
     {"draw", DRAW, 0, "nothing", draw,
      "  wattleslate [draw] [-f FONT] [-c CONTROL] [NAME...]\n"
      "      draws each NAME, or without a NAME each line of standard input\n"},
+    {"stack", STACK, 0, "nothing", stack,
+     "  wattleslate stack [-f FONT] [-c CONTROL] [NAME...]\n"
+     "      draws the NAMEs, or the lines of standard input, below one another, closed up as the font says\n"},
     {"check", CHECK, 1, "a FONT or a CONTROL", check,
      "  wattleslate check FONT|CONTROL...\n"
      "      reads fonts and control files, and says what is wrong with them\n"},
@@ -51,8 +55,8 @@ struct option {
 };
 
 static const struct option OPTIONS[] = {
-    {"-f", "FONT", DRAW, FONT, "  -f FONT     draw with this FIGfont, and not with the built-in one\n"},
-    {"-c", "CONTROL", DRAW, CONTROL, "  -c CONTROL  map the characters by this control file first\n"},
+    {"-f", "FONT", DRAW | STACK, FONT, "  -f FONT     draw with this FIGfont, and not with the built-in one\n"},
+    {"-c", "CONTROL", DRAW | STACK, CONTROL, "  -c CONTROL  map the characters by this control file first\n"},
     {"-h", NULL, EVERY_WORD, HELP, ""},
     {"--help", NULL, EVERY_WORD, HELP, "  --help, -h  print this help\n"},
     {"--version", NULL, EVERY_WORD, SHOW_VERSION, "  --version   print the version\n"},
@@ -69,12 +73,6 @@ static const char MORE_HELP[] =
 static enum status worse(enum status one, enum status other) {
     return one > other ? one : other;
 }
-
-/* The files that drawing takes. */
-struct files {
-    struct file font, control;
-    uint32_t height;
-};
 
 /* Loads the font and the control file that were asked for and has the library read them. What is wrong with either is said once, not for each
  * name. */
@@ -104,14 +102,19 @@ static enum status take_files(const struct call *call, struct files *files) {
     return status;
 }
 
-static enum status draw_text(const struct files *files, const struct text *text) {
+struct drawing draw_line(const struct files *files, const struct text *text) {
     static uint8_t scratch[WATTLESLATE_SCRATCH], out[WATTLESLATE_MAX_DRAWN];
     uint64_t answer = wattleslate_draw(files->font.bytes, files->font.length, files->control.bytes, files->control.length, text->bytes,
                                        text->length, scratch, sizeof scratch, out, sizeof out);
-    if (wattleslate_number(answer) != WATTLESLATE_NOT_REFUSED) {
-        return text_refused(text, answer);
+    return (struct drawing){answer, out};
+}
+
+static enum status draw_text(const struct files *files, const struct text *text) {
+    struct drawing drawing = draw_line(files, text);
+    if (wattleslate_number(drawing.answer) != WATTLESLATE_NOT_REFUSED) {
+        return text_refused(text, drawing.answer);
     }
-    return put(out, WATTLESLATE_DRAWN(files->height, wattleslate_width(answer)));
+    return put(drawing.rows, WATTLESLATE_DRAWN(files->height, wattleslate_width(drawing.answer)));
 }
 
 /* The text with that number, counted from 0: of the operands, or without one of the lines of standard input. */
@@ -138,6 +141,34 @@ static enum status draw(const struct call *call) {
         status = worse(status, draw_text(&files, &text));
     }
     return step == FAILED ? BAD_FILE : status;
+}
+
+/* The stack is drawn whole or not at all: a name that is refused is told, and ends it. One name alone is drawn as it is. */
+static enum status stack(const struct call *call) {
+    struct files files;
+    struct text upper, lower;
+    enum status status = take_files(call, &files);
+    if (status != GOOD) {
+        return status;
+    }
+    enum step step = next_text(call, 0, &upper);
+    if (step == NEXT) {
+        step = next_text(call, 1, &lower);
+        if (step == END) {
+            return draw_text(&files, &upper);
+        }
+    }
+    if (step != NEXT) {
+        return step == FAILED ? BAD_FILE : GOOD;
+    }
+    status = stack_two(&files, &upper, &lower);
+    for (size_t number = 2; status == GOOD && (step = next_text(call, number, &lower)) == NEXT; number++) {
+        status = stack_one_more(&files, &lower);
+    }
+    if (status == GOOD && step == FAILED) {
+        return BAD_FILE;
+    }
+    return status == GOOD ? put_stack() : status;
 }
 
 /* The first line tells a control file, else the name's end does. All others are fonts: one without its first word is refused for that. */

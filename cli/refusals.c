@@ -26,7 +26,8 @@ static const struct refusal REFUSALS[] = {
     [WATTLESLATE_TOO_MANY_COMMANDS]   = {true,  "a 257th command or a 65th stage"},
     [WATTLESLATE_TEXT_TOO_LONG]       = {false, "the text is longer than 1,024 bytes"},
     [WATTLESLATE_LINE_TOO_WIDE]       = {false, "the drawn line is wider than 1,000 columns"},
-    [WATTLESLATE_BAD_SHAPE]           = {false, "a join of bad shape"},
+    [WATTLESLATE_BAD_SHAPE]           = {false, "a join or a stack of bad shape"},
+    [WATTLESLATE_STACK_TOO_HIGH]      = {false, "the stack is higher than 64 rows"},
 };
 /* clang-format on */
 
@@ -60,24 +61,14 @@ static size_t line_of(const struct file *file, size_t place) {
     return line;
 }
 
-/* The third number of a header that was accepted: Height, Baseline and Max_Length are digits between blanks and tabs, behind the hardblank. */
-static size_t max_length(const struct file *font) {
-    size_t at = 6, value = 0;
-    for (int word = 0; word < 3; word++) {
-        while (at < font->length && (font->bytes[at] == ' ' || font->bytes[at] == '\t')) {
-            at++;
-        }
-        for (value = 0; at < font->length && font->bytes[at] >= '0' && font->bytes[at] <= '9'; at++) {
-            value = value * 10 + (size_t)(font->bytes[at] - '0');
-        }
-    }
-    return value;
-}
-
 /* Which of the four reasons of refusal 6 the line at a place gives, with the column of the first byte at fault where there is one. The last reason
  * is the one that is left when none of the others is there. The header of the font was accepted. */
 static const char *row_fault(const struct file *font, size_t start, size_t *column) {
-    size_t end = line_end(font, start), most = max_length(font), behind = end;
+    size_t end = line_end(font, start), behind = end, most;
+    int64_t max_length = 0;
+    /* A header that was accepted has it. */
+    (void)header_number(font, MAX_LENGTH, &max_length);
+    most = (size_t)max_length;
     if (end == start) {
         return "an empty line where a row is due";
     }

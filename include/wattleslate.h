@@ -7,11 +7,13 @@
  * The answer has the refusal's number in its upper 16 bits, 0 if it is not refused. Below it stands the refusal's place, 48 bits, or up to three values of 16 bits:
  * a * 2^32 + b * 2^16 + c. The functions at the end take an answer apart. After a refusal every area that was lent for writing is all zeros.
  *
- *     Call                        a   b         c
- *     wattleslate_check_font      0   height    characters
- *     wattleslate_check_control   0   stages    commands
- *     wattleslate_draw            0   0         width
- *     wattleslate_join            0   overlap   width
+ *     Call                        a         b         c
+ *     wattleslate_check_font      0         height    characters
+ *     wattleslate_check_control   0         stages    commands
+ *     wattleslate_draw            0         0         width
+ *     wattleslate_join            0         overlap   width
+ *     wattleslate_stack           overlap   height    width
+ *     wattleslate_draw_stacked    overlap   height    width
  */
 #ifndef WATTLESLATE_H
 #define WATTLESLATE_H
@@ -29,6 +31,7 @@ extern "C" {
 #define WATTLESLATE_MAX_TEXT 1024u
 #define WATTLESLATE_MAX_WIDTH 1000u
 #define WATTLESLATE_MAX_HEIGHT 32u
+#define WATTLESLATE_MAX_STACK_HEIGHT 64u
 #define WATTLESLATE_MAX_CHARACTER_WIDTH 199u
 #define WATTLESLATE_MAX_CHARACTERS 512u
 #define WATTLESLATE_MAX_COMMANDS 256u
@@ -37,11 +40,15 @@ extern "C" {
 /* The scratch that drawing is lent has this many bytes or more. */
 #define WATTLESLATE_SCRATCH 32000u
 
+/* The scratch that drawing two lines is lent has this many bytes or more: one line's room for each text. */
+#define WATTLESLATE_STACKED_SCRATCH 64000u
+
 /* The bytes of a drawing: `height` rows of `width` columns, each with an LF. */
 #define WATTLESLATE_DRAWN(height, width) ((size_t)(height) * ((size_t)(width) + 1u))
 
-/* Room for every drawing of every font. */
+/* Room for every drawing of every font, and for every drawing of two lines. */
 #define WATTLESLATE_MAX_DRAWN WATTLESLATE_DRAWN(WATTLESLATE_MAX_HEIGHT, WATTLESLATE_MAX_WIDTH)
+#define WATTLESLATE_MAX_STACKED WATTLESLATE_DRAWN(WATTLESLATE_MAX_STACK_HEIGHT, WATTLESLATE_MAX_WIDTH)
 
 /* The refusal numbers, and what the place is: 0 where nothing is said. */
 enum wattleslate_refusal {
@@ -62,13 +69,19 @@ enum wattleslate_refusal {
     WATTLESLATE_TOO_MANY_COMMANDS = 14,  /* a 257th command or 65th stage; place: the start of that line */
     WATTLESLATE_TEXT_TOO_LONG = 15,
     WATTLESLATE_LINE_TOO_WIDE = 16,
-    WATTLESLATE_BAD_SHAPE = 17           /* a join of bad shape */
+    WATTLESLATE_BAD_SHAPE = 17,          /* a join or a stack of bad shape */
+    WATTLESLATE_STACK_TOO_HIGH = 18      /* over 64 rows */
 };
 
 /* Layouts of a join, as a font's Full_Layout: one of these, or SMUSHING plus rules 1 to 63. Any number up to 32,767 means what it means there. */
 #define WATTLESLATE_FULL_WIDTH 0u
 #define WATTLESLATE_FITTING 64u
 #define WATTLESLATE_SMUSHING 128u /* without rules: universal */
+
+/* Layouts of a stack, as a font's Full_Layout too: one of these, or VERTICAL_SMUSHING plus rules, the sum of some of 256, 512, 1,024, 2,048 and 4,096. */
+#define WATTLESLATE_FULL_HEIGHT 0u
+#define WATTLESLATE_VERTICAL_FITTING 8192u
+#define WATTLESLATE_VERTICAL_SMUSHING 16384u /* without rules: universal */
 
 /* Directions of a join, as a font's Print_Direction. */
 #define WATTLESLATE_LEFT_TO_RIGHT 0u
@@ -93,6 +106,22 @@ uint64_t wattleslate_join(const uint8_t *line, size_t line_len, size_t line_widt
                           size_t character_width, size_t height, uint8_t hardblank, size_t layout, size_t direction, uint8_t *out,
                           size_t out_len);
 
+/* Stacks a block on another, closed up as the vertical part of a Full_Layout says; what that layout says of the horizontal axis is not read. In both blocks
+ * hardblanks become blanks, and the narrower one is filled with blanks on the right. A block's rows lie one after another; `out` then holds the result's, and zeros
+ * behind them. Refusals: 17 (upper height outside 1 to 64, lower height outside 1 to 32, a width over 1,000, a block that is not height times width long, a
+ * hardblank that is blank, CR, LF or NUL, a layout over 32,767), 18, then 9. Values: wattleslate_stack_overlap, wattleslate_height and wattleslate_width. */
+uint64_t wattleslate_stack(const uint8_t *upper, size_t upper_len, size_t upper_width, size_t upper_height, const uint8_t *lower,
+                           size_t lower_len, size_t lower_width, size_t lower_height, uint8_t hardblank, size_t layout, uint8_t *out,
+                           size_t out_len);
+
+/* Draws two lines of text by a font and a control file, which may be empty, and stacks the first on the second by the font's vertical layout, which without a Full_Layout is
+ * full height. `out` then holds the rows, each with an LF, and zeros behind them; `scratch` is all zeros. Refusals: 9 for a scratch under
+ * WATTLESLATE_STACKED_SCRATCH bytes, 1 to 8, 10 to 14, 15 and 16, each for either text, then 9 for `out`. 18 is never given: two lines have 64 rows at most.
+ * Values: wattleslate_stack_overlap, wattleslate_height and wattleslate_width. */
+uint64_t wattleslate_draw_stacked(const uint8_t *font, size_t font_len, const uint8_t *control, size_t control_len, const uint8_t *upper,
+                                  size_t upper_len, const uint8_t *lower, size_t lower_len, uint8_t *scratch, size_t scratch_len,
+                                  uint8_t *out, size_t out_len);
+
 /* The bits of a place, and those of a value. */
 #define WATTLESLATE_PLACE_BITS 48
 #define WATTLESLATE_VALUE_BITS 16
@@ -107,7 +136,7 @@ static inline uint64_t wattleslate_place(uint64_t answer) {
     return answer & (((uint64_t)1 << WATTLESLATE_PLACE_BITS) - 1);
 }
 
-/* Of wattleslate_draw and wattleslate_join, where not refused: the width of the drawing or of the result. */
+/* Of the calls that draw, join or stack, where not refused: the width of the drawing or of the result. */
 static inline uint32_t wattleslate_width(uint64_t answer) {
     return (uint16_t)answer;
 }
@@ -117,7 +146,12 @@ static inline uint32_t wattleslate_overlap(uint64_t answer) {
     return (uint16_t)(answer >> WATTLESLATE_VALUE_BITS);
 }
 
-/* Of wattleslate_check_font, where not refused: the height of the font. */
+/* Of wattleslate_stack and wattleslate_draw_stacked, where not refused: how many rows of both blocks lie on one another. */
+static inline uint32_t wattleslate_stack_overlap(uint64_t answer) {
+    return (uint16_t)(answer >> (2 * WATTLESLATE_VALUE_BITS));
+}
+
+/* Of wattleslate_check_font, where not refused: the height of the font; of wattleslate_stack and wattleslate_draw_stacked: the height of the result. */
 static inline uint32_t wattleslate_height(uint64_t answer) {
     return (uint16_t)(answer >> WATTLESLATE_VALUE_BITS);
 }

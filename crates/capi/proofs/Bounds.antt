@@ -2,14 +2,16 @@
 -- Assumes nothing.
 use mathlib.Core.Path.{_≡_, refl, sym, ap, _∙_, subst}
 use mathlib.Core.List.{List}
+use mathlib.Core.Logic.{⊎-elim}
 use Prim.Native.Nat.{ℕ, _*_, _/_, _%_, _≤_}
 use native.Mathlib.Omega.{arith}
 use lib.ListN.{length}
 use Rattle.ground.specs.Limits.{maxFontLength}
-use Rattle.ground.specs.Refusals.{badShape}
+use Rattle.ground.specs.Refusals.{stackTooHigh}
 use Rattle.ground.specs.declared.refusals.Refusal.{Refusal}
 use Rattle.ground.proofs.Tests.{clash}
 use Rattle.subchars.specs.declared.Mode.{Mode}
+use Rattle.subchars.specs.declared.VerticalLayout.{VerticalLayout}
 use Rattle.header.specs.declared.Header.{Header}
 use Rattle.font.specs.Font.{reading, refuses}
 use Rattle.font.proofs.ReadingLaws.{font-refusal, font-read}
@@ -29,6 +31,10 @@ use Rattle.join.specs.JoinCall.{JoinTold, joinTells, joinTold}
 use Rattle.wattleslate.proofs.ToldApart.{draw-apart}
 use Rattle.drawing.proofs.Answers.{DrawsTo, scratch-small, font-refused, control-refused, text-too-long, line-too-wide, output-small, draws, answer, one-of}
 use Rattle.join.proofs.Answers.{refused-tells, joined-within}
+use Rattle.stack.specs.declared.StackAnswer.the-variants as stack-is
+use Rattle.stack.specs.StackCall.{StackTold, stackTells, stackTold}
+use Rattle.stack.proofs.Answers as stacks
+use Rattle.twolines.proofs.Answers as two-lines
 use Rattle.capi.specs.Numbers.{valueBound, placeBound, refusedAt, threeValues, RefusalFits, ValuesFit}
 
 -- A caller that takes an answer apart finds what was put in: a refusal's number, which is not 0, and its place;
@@ -41,7 +47,7 @@ pub values-apart : (a b c : ℕ) → ValuesFit a b c →
 values-apart a b c p = (omega arith, omega arith, omega arith, omega arith)
 
 -- A number of the table and a place in a file have room.
-table-fits : (number place : ℕ) → 1 ≤ number → number ≤ badShape → place ≤ maxFontLength → RefusalFits number place
+table-fits : (number place : ℕ) → 1 ≤ number → number ≤ stackTooHigh → place ≤ maxFontLength → RefusalFits number place
 table-fits number place l m n = record { not-0 = l; number-in-16 = omega arith; place-in-48 = omega arith }
 
 -- A font's: its Height is at most 32, and it has at most 512 characters.
@@ -112,3 +118,36 @@ module _ (y : Mode) (h n : ℕ) (line : List ℕ) (m : ℕ) (character : List �
   join-values-fit o w e =
       let k = joined-within y h n line m character room o w e in
       record { a-in-16 = omega arith; b-in-16 = omega (arith, k .0, k .1); c-in-16 = omega (arith, k .1) }
+
+-- A stack's.
+module _ (layout : VerticalLayout) (hardblank n upperWidth : ℕ) (upper : List ℕ) (m lowerWidth : ℕ) (lower : List ℕ) (room : ℕ) where
+  abbrev told : StackTold
+  told = stackTold layout hardblank n upperWidth upper m lowerWidth lower room
+
+  pub stack-refusal-fits : (r : Refusal) → stackTells (stack-is.Refused r) ≡ told → RefusalFits (r .number) (r .place)
+  stack-refusal-fits r e =
+      let low = stacks.refused-tells layout hardblank n upperWidth upper m lowerWidth lower room (sym (ap (λ (t : StackTold). t .refused) e)) in
+      let number = ap (λ (t : StackTold). t .number) e in
+      let place = ap (λ (t : StackTold). t .place) e in
+      let fits : (k : ℕ) → 1 ≤ k → k ≤ stackTooHigh → told .number ≡ k → RefusalFits (r .number) (r .place) =
+      λ k u v q. table-fits _ _ (omega (arith, number, q, u)) (omega (arith, number, q, v)) (omega (arith, place, low .1)) in
+      ⊎-elim (fits _ (omega arith) (omega arith)) (⊎-elim (fits _ (omega arith) (omega arith)) (fits _ (omega arith) (omega arith))) (low .0)
+
+  pub stack-values-fit : (o h w : ℕ) → stackTells (stack-is.Stacked o h w) ≡ told → ValuesFit o h w
+  stack-values-fit o h w e =
+      let k = stacks.stacked-within layout hardblank n upperWidth upper m lowerWidth lower room o h w e in
+      record { a-in-16 = omega (arith, k .0); b-in-16 = omega (arith, k .1); c-in-16 = omega (arith, k .2) }
+
+-- Those of two lines.
+module _ (size : ℕ) (s control upper lower : List ℕ) (room : ℕ) where
+  pub lines-refusal-fits : (r : Refusal) → stackTells (stack-is.Refused r) ≡ two-lines.answer size s control upper lower room → RefusalFits (r .number) (r .place)
+  lines-refusal-fits r e =
+      let low = two-lines.refused-tells size s control upper lower room (sym (ap (λ (t : StackTold). t .refused) e)) in
+      let number = ap (λ (t : StackTold). t .number) e in
+      let place = ap (λ (t : StackTold). t .place) e in
+      table-fits _ _ (omega (arith, number, low .number-from-1)) (omega (arith, number, low .number-to-16)) (omega (arith, place, low .place-small))
+
+  pub lines-values-fit : (o h w : ℕ) → stackTells (stack-is.Stacked o h w) ≡ two-lines.answer size s control upper lower room → ValuesFit o h w
+  lines-values-fit o h w e =
+      let k = two-lines.lines-within size s control upper lower room o h w e in
+      record { a-in-16 = omega (arith, k .0); b-in-16 = omega (arith, k .1); c-in-16 = omega (arith, k .2) }

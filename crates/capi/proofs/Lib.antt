@@ -1,3 +1,4 @@
 -- The laws of the calls for programs in C and Rust.
 pub mod JoinLaws
+pub mod StackLaws
 pub mod Bounds

@@ -1,19 +1,20 @@
--- An answer as one number of 64 bits, and a join whose layout and direction are numbers.
+-- An answer as one number of 64 bits, and a join and a stack whose layout is a number.
 -- Assumes nothing.
 use Prim.Native.Nat.{ℕ, _+_, _*_, _≤_, _<_}
 use mathlib.Core.Bool.{Bool, cond, _&&_}
 use mathlib.Core.List.{List}
-use lib.Dec.{leb}
+use lib.Dec.{leb, ltb}
 use Rattle.ground.specs.Area.{zeros}
 use Rattle.ground.specs.Limits.{maxFullLayout, maxDirection}
 use Rattle.ground.specs.Refusals.{badShape}
 use Rattle.subchars.specs.declared.Mode.{Mode}
-use Rattle.subchars.specs.Layouts.{fullLayout, printDirection}
+use Rattle.subchars.specs.Layouts.{fullLayout, fullVertical, printDirection}
 use Rattle.reader.specs.declared.FontAnswer.{FontAnswer}
 use Rattle.reader.specs.declared.FontAnswer.the-variants.{Read, Refused}
 use Rattle.wattleslate.specs.ControlCall.{ControlTold}
 use Rattle.wattleslate.specs.DrawCall.{DrawTold}
 use Rattle.join.specs.JoinCall.{JoinTold, refusing, joinTold, joinArea}
+use Rattle.stack.specs.StackCall.{StackTold, noStackIf, stackTold, stackArea}
 
 -- A value is below this, as is a refusal's number: 16 bits.
 abbrev pub valueBound : ℕ
@@ -80,3 +81,16 @@ joinTaken layout direction hardblank h n line m character room =
 unfoldable pub joinLeft : ℕ → ℕ → ℕ → ℕ → ℕ → List ℕ → ℕ → List ℕ → ℕ → List ℕ
 joinLeft layout direction hardblank h n line m character room =
     cond (legalMode layout direction) (joinArea (modeBy layout direction hardblank) h n line m character room) (zeros room)
+
+-- Overlap, height and width.
+abbrev pub stackNumber : StackTold → ℕ
+stackNumber t = telling (t .refused) (t .number) (t .place) (threeValues (t .overlap) (t .height) (t .width))
+
+-- "Full_Layout 0 to 32,767", of which the vertical part is read; another number is a stack of bad shape. "Refusals: 17 ..; 18 ..; 9."
+unfoldable pub stackTaken : ℕ → ℕ → ℕ → ℕ → List ℕ → ℕ → ℕ → List ℕ → ℕ → StackTold
+stackTaken layout hardblank n upperWidth upper m lowerWidth lower room =
+    noStackIf (ltb maxFullLayout layout) badShape (stackTold (fullVertical layout) hardblank n upperWidth upper m lowerWidth lower room)
+
+unfoldable pub stackLeft : ℕ → ℕ → ℕ → ℕ → List ℕ → ℕ → ℕ → List ℕ → ℕ → List ℕ
+stackLeft layout hardblank n upperWidth upper m lowerWidth lower room =
+    cond (ltb maxFullLayout layout) (zeros room) (stackArea (fullVertical layout) hardblank n upperWidth upper m lowerWidth lower room)

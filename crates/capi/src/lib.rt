@@ -8,7 +8,9 @@ use reader::FontAnswer;
 use subchars::Direction;
 use subchars::Layout;
 use subchars::SubCharacter;
+use subchars::VerticalLayout;
 use wattleslate::JoinAnswer;
+use wattleslate::StackAnswer;
 ghost use mathlib.Core.Path.{_≡_};
 ghost use lib.ListN.{length};
 ghost use Rattle.ground.specs.Area.{zeros};
@@ -18,7 +20,8 @@ ghost use Rattle.flc.specs.Control.{control};
 ghost use Rattle.reader.specs.Reader.{fontAnswer};
 ghost use Rattle.wattleslate.specs.ControlCall.{controlTold};
 ghost use Rattle.wattleslate.specs.DrawCall.{drawTold, drawOutput};
-ghost use Rattle.capi.specs.Numbers.{refusedAt, RefusalFits, threeValues, ValuesFit, fontNumber, controlNumber, drawNumber, joinNumber, joinTaken, joinLeft};
+ghost use Rattle.twolines.specs.TwoLines.{drawLines, linesTold, linesOutput};
+ghost use Rattle.capi.specs.Numbers.{refusedAt, RefusalFits, threeValues, ValuesFit, fontNumber, controlNumber, drawNumber, joinNumber, joinTaken, joinLeft, stackNumber, stackTaken, stackLeft};
 
 // A value is below this, as is a refusal's number: 16 bits.
 const VALUE_BOUND: u64 = 65536;
@@ -133,5 +136,70 @@ pub extern "C" fn wattleslate_join(
     ) {
         JoinAnswer::Joined { overlap, width } => three_values(0, overlap, width),
         JoinAnswer::Refused(r) => refused_at(r.number, r.place),
+    }
+}
+
+// Stacks a lower block under an upper one, and answers overlap, height and width: `wattleslate::stack`, with the layout as a Full_Layout (0 to 32,767),
+// of which the vertical part is read. Any other number is refused 17.
+#[no_mangle]
+pub extern "C" fn wattleslate_stack(
+    upper: &[u8],
+    upper_width: usize,
+    upper_height: usize,
+    lower: &[u8],
+    lower_width: usize,
+    lower_height: usize,
+    hardblank: u8,
+    layout: usize,
+    out: &mut [u8],
+) -> u64
+    ensures answer { λ r. ⌜ r ≡ stackNumber (stackTaken layout hardblank «upper_height» «upper_width» (now (upper .entry)) «lower_height» «lower_width» (now (lower .entry)) (length (now (out .entry)))) ⌝ }
+    ensures area { λ r. ⌜ now (out .exit) ≡ stackLeft layout hardblank «upper_height» «upper_width» (now (upper .entry)) «lower_height» «lower_width» (now (lower .entry)) (length (now (out .entry))) ⌝ }
+{
+    if limits::MAX_FULL_LAYOUT < layout {
+        ground::zero_from(out, 0);
+        return refused_at(refusals::BAD_SHAPE, 0);
+    }
+    match wattleslate::stack(
+        upper,
+        upper_width,
+        upper_height,
+        lower,
+        lower_width,
+        lower_height,
+        SubCharacter(hardblank),
+        VerticalLayout::from_full(layout),
+        out,
+    ) {
+        StackAnswer::Stacked {
+            overlap,
+            height,
+            width,
+        } => three_values(overlap, height, width),
+        StackAnswer::Refused(r) => refused_at(r.number, r.place),
+    }
+}
+
+// Draws two texts one above the other, and answers overlap, height and width: `wattleslate::draw_stacked`.
+#[no_mangle]
+pub extern "C" fn wattleslate_draw_stacked(
+    font: &[u8],
+    control: &[u8],
+    upper: &[u8],
+    lower: &[u8],
+    scratch: &mut [u8],
+    out: &mut [u8],
+) -> u64
+    ensures answer { λ r. ⌜ r ≡ stackNumber (linesTold (drawLines (length (now (scratch .entry))) (now (font .entry)) (now (control .entry)) (now (upper .entry)) (now (lower .entry))) (length (now (out .entry)))) ⌝ }
+    ensures output { λ r. ⌜ now (out .exit) ≡ linesOutput (drawLines (length (now (scratch .entry))) (now (font .entry)) (now (control .entry)) (now (upper .entry)) (now (lower .entry))) (length (now (out .entry))) ⌝ }
+    ensures scratch { λ r. ⌜ now (scratch .exit) ≡ zeros (length (now (scratch .entry))) ⌝ }
+{
+    match wattleslate::draw_stacked(font, control, upper, lower, scratch, out) {
+        StackAnswer::Stacked {
+            overlap: o,
+            height: h,
+            width: w,
+        } => three_values(o, h, w),
+        StackAnswer::Refused(r) => refused_at(r.number, r.place),
     }
 }

@@ -16,9 +16,10 @@ use Rattle.ground.specs.Limits.{maxLineWidth, maxText, minScratch}
 use Rattle.ground.specs.Refusals.{refusal, tooManyCharacters, areaTooSmall, controlFileTooLong, tooManyCommands, textTooLong, lineTooWide}
 use Rattle.ground.specs.declared.refusals.Refusal.{Refusal}
 use Rattle.ground.proofs.Areas.{padded-at}
+use Rattle.subchars.specs.Pair.{blanked}
 use Rattle.join.specs.Join.{Block}
 use Rattle.join.proofs.Rows.{row-room}
-use Rattle.figure.specs.Line.{blanked, shown, outputOf, outputBytes, drawnOnly}
+use Rattle.figure.specs.Line.{shown, outputOf, outputBytes, drawnOnly}
 use Rattle.figure.proofs.Showing.{too-wide, no-room, drawn, shown-byte, shown-lf, length-shown}
 use Rattle.header.specs.declared.Header.{Header}
 use Rattle.chars.specs.declared.Entry.{Entry}

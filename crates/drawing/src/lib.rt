@@ -55,7 +55,7 @@ fn direction_of(given: Given) -> Direction
 }
 
 // How a font's FIGcharacters are joined.
-fn mode_of(header: Header) -> Mode
+pub fn mode_of(header: Header) -> Mode
     ensures { λ r. ⌜ r ≡ modeOf header ⌝ }
 {
     let given = header.print_direction;
@@ -118,7 +118,7 @@ fn code_of(byte: u8) -> Code
 }
 
 // Joins the characters of a text in turn, from an empty line on; answers the line's width. It stops where that passes the limit.
-fn join_text(
+pub fn join_text(
     area: &mut [u8],
     text: &[u8],
     limit: usize,

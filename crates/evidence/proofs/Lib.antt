@@ -1,3 +1,2 @@
--- The laws of what the evidence programs share.
-pub mod Signs
+-- The laws of what is lent for an index.
 pub mod Cut

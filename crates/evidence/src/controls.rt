@@ -1,9 +1,9 @@
 // What is printed about a control file: its counts and first commands, and what a code maps to.
-use crate::asking::code_of;
-use crate::printing::named;
-use crate::printing::refused;
-use crate::printing::signed;
-use crate::printing::signed_named;
+use asking::code_of;
+use asking::printing::named;
+use asking::printing::refused;
+use asking::printing::signed;
+use asking::printing::signed_named;
 use flc::ControlAnswer;
 use wattleslate::MapAnswer;
 

@@ -1,13 +1,13 @@
 // What is printed about a lent index: a font is read into it, a code is looked up in it, and one of its entries is shown.
-use crate::asking::behind;
-use crate::asking::code_of;
-use crate::asking::row_of;
-use crate::asking::word_of;
-use crate::printing::named;
-use crate::printing::number;
-use crate::printing::refused;
-use crate::printing::signed_named;
-use crate::printing::text;
+use asking::behind;
+use asking::code_of;
+use asking::printing::named;
+use asking::printing::number;
+use asking::printing::refused;
+use asking::printing::signed_named;
+use asking::printing::text;
+use asking::row_of;
+use asking::word_of;
 use chars::Entry;
 use reader::Use;
 use subchars::Code;

@@ -1,13 +1,16 @@
 // What is printed about a join: the answer, and all of the area.
-use crate::asking::behind;
-use crate::asking::row_of;
-use crate::asking::word_of;
-use crate::drawings::MOST_ROOM;
-use crate::drawings::past_byte;
-use crate::drawings::show_output;
-use crate::drawings::used_output;
-use crate::printing::named;
-use crate::printing::refused;
+use asking::areas::MOST_ROOM;
+use asking::areas::show_output;
+use asking::areas::used_output;
+use asking::behind;
+use asking::first_block;
+use asking::hardblank_of;
+use asking::past_byte;
+use asking::printing::named;
+use asking::printing::refused;
+use asking::row_of;
+use asking::second_block;
+use asking::word_of;
 use ground::limits;
 use subchars::Direction;
 use subchars::Layout;
@@ -38,11 +41,6 @@ fn layout_of(word: &[u8]) -> Layout {
         return Layout::Smushing(Smushing::Controlled(rules));
     }
     Layout::from_full(n)
-}
-
-fn hardblank_of(word: &[u8]) -> SubCharacter {
-    let n = row_of(word) % 256;
-    SubCharacter(n as u8)
 }
 
 fn show_answer(answer: JoinAnswer) {
@@ -82,15 +80,6 @@ fn join(m: Manner, s: Shape, line: &[u8], character: &[u8], room: usize)
     join_in(m, s, line, character, &mut out[..room]);
 }
 
-// The blocks of a text: the line's so many bytes, a byte between, and the character's up to the end.
-fn join_blocks(m: Manner, s: Shape, length: usize, room: usize, t: &[u8])
-    requires { ⌜ room ≤ 1100 ⌝ }
-{
-    if length <= t.len() {
-        join(m, s, &t[..length], past_byte(&t[length..]), room);
-    }
-}
-
 // Three words: a layout, a direction and a hardblank.
 fn manner_of(words: &[u8]) -> Manner {
     let second = behind(words);
@@ -121,11 +110,13 @@ pub(crate) fn show_join(words: &[u8]) {
     let area = behind_three(shape);
     let length = behind(area);
     let room = ground::smaller(row_of(word_of(area)), MOST_ROOM);
-    join_blocks(
+    let n = row_of(word_of(length));
+    let t = past_byte(behind(length));
+    join(
         manner_of(words),
         shape_of(shape),
-        row_of(word_of(length)),
+        first_block(t, n),
+        second_block(t, n),
         room,
-        past_byte(behind(length)),
     );
 }

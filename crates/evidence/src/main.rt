@@ -1,22 +1,20 @@
 // Answers requests on standard input about the files of its folder: fonts at both sides of every limit, and control files.
-mod asking;
 mod controls;
 mod drawings;
 mod fonts;
 mod indexes;
 mod joins;
-mod printing;
 
 use asking::behind;
 use asking::load;
+use asking::printing::heading;
+use asking::printing::text;
 use asking::shortened;
 use asking::word_of;
 use libc::STDIN_FILENO;
 use lines::Cursor;
 use lines::LineStep;
 use lines::words;
-use printing::heading;
-use printing::text;
 
 // Requests about a font; the answer begins with the font's name, or with the request.
 fn about_font(line: &[u8], font: &[u8]) {

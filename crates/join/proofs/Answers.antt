@@ -10,8 +10,8 @@ use lib.Dec.{ltb, leb}
 use lib.ListN.{length}
 use borrow.Author.Tests.{lt-ltb, le-ltb, ltb-true, ltb-false, leb-true, leb-false, eqb-true, eqb-false}
 use Rattle.ground.specs.Limits.{maxHeight, maxLineWidth, maxCharacterWidth, maxRules}
-use Rattle.ground.specs.Refusals.{refusal, areaTooSmall, lineTooWide, badShape}
-use Rattle.ground.proofs.Tests.{and-left, and-right, never-both}
+use Rattle.ground.specs.Refusals.{areaTooSmall, lineTooWide, badShape, refusal}
+use Rattle.ground.proofs.Tests.{and-none, and-left, and-right, and-left-false, and-right-false, never-both}
 use Rattle.subchars.specs.declared.Layout.{Layout}
 use Rattle.subchars.specs.declared.Layout.the-variants.{FullWidth, Fitting, Smushing}
 use Rattle.subchars.specs.declared.Smushing.the-variants.{Universal, Controlled}
@@ -21,12 +21,8 @@ use Rattle.join.specs.Join.{Block, exactBlock, leftOf, rightOf, overlap,
 use Rattle.join.specs.Shape.{goodKind, goodLayout, goodBlock, goodShape}
 use Rattle.join.specs.declared.JoinAnswer.the-variants.{Joined, Refused}
 use Rattle.join.specs.JoinCall.{JoinTold, joinTells, refusing, toldOf, joinTold}
+use Rattle.join.proofs.GoodShape.{block-good, block-bad}
 use Rattle.join.proofs.Demand.{overlap-narrower}
-
--- which of two tests fails where both do not hold
-and-none : (a b : Bool) → (a && b) ≡ false → (a ≡ false) ⊎ (b ≡ false)
-and-none true b e = inr e
-and-none false b e = inl refl
 
 -- 17: "height outside 1 to 32, line width over 1,000, character width over 199, rules outside 1 to 63 in controlled mode, a hardblank that 3
 -- refuses, or blocks not exactly height times width long".
@@ -67,15 +63,8 @@ module _ (y : Mode) (h n : ℕ) (line : List ℕ) (m : ℕ) (character : List �
   shape = goodShape y h n (length line) m (length character)
 
   -- a block that is not good
-  block-bad : (most width bytes : ℕ) → goodBlock h most width bytes ≡ false → (most < width → BadShape) → ((bytes ≡ h * width → ⊥) → BadShape) → BadShape
-  unfolding goodBlock
-  block-bad most width bytes e over inexact =
-      let t1 = leb 1 h in
-      let t2 = t1 && leb h maxHeight in
-      let t3 = t2 && leb width most in
-      ⊎-elim
-      (λ a. ⊎-elim (λ b. ⊎-elim (λ c. height-under (leb-false 1 h c)) (λ c. height-over (leb-false h maxHeight c)) (and-none t1 _ b)) (λ b. over (leb-false width most b)) (and-none t2 _ a))
-      (λ a. inexact (eqb-false bytes (h * width) a)) (and-none t3 _ e)
+  block-fails : (widest width bytes : ℕ) → goodBlock maxHeight h widest width bytes ≡ false → (widest < width → BadShape) → ((bytes ≡ h * width → ⊥) → BadShape) → BadShape
+  block-fails widest width bytes e = block-bad maxHeight h widest width bytes e height-under height-over
 
   layout-bad : (layout : Layout) → y .layout ≡ layout → goodLayout layout ≡ false → BadShape
   layout-bad FullWidth q e = absurd (true≢false e)
@@ -86,31 +75,22 @@ module _ (y : Mode) (h n : ℕ) (line : List ℕ) (m : ℕ) (character : List �
   pub shape-bad : shape ≡ false → BadShape
   unfolding goodShape
   shape-bad e =
-      let l = goodBlock h maxLineWidth n (length line) in
-      let c = goodBlock h maxCharacterWidth m (length character) in
+      let l = goodBlock maxHeight h maxLineWidth n (length line) in
+      let c = goodBlock maxHeight h maxCharacterWidth m (length character) in
       ⊎-elim
-      (λ a. ⊎-elim (λ b. ⊎-elim (λ u. block-bad maxLineWidth n (length line) u line-over line-not-exact) (λ u. block-bad maxCharacterWidth m (length character) u character-over character-not-exact) (and-none l c b)) (λ b. layout-bad (y .layout) refl b) (and-none (l && c) _ a))
+      (λ a. ⊎-elim (λ b. ⊎-elim (λ u. block-fails maxLineWidth n (length line) u line-over line-not-exact) (λ u. block-fails maxCharacterWidth m (length character) u character-over character-not-exact) (and-none l c b)) (λ b. layout-bad (y .layout) refl b) (and-none (l && c) _ a))
       hardblank-refused (and-none (l && c && goodLayout (y .layout)) _ e)
 
   -- a good block, layout and hardblank are none of these
   good-is : shape ≡ true → BadShape → ⊥
-  unfolding goodShape goodBlock
+  unfolding goodShape
   good-is e b =
-      let l = goodBlock h maxLineWidth n (length line) in
-      let c = goodBlock h maxCharacterWidth m (length character) in
+      let l = goodBlock maxHeight h maxLineWidth n (length line) in
+      let c = goodBlock maxHeight h maxCharacterWidth m (length character) in
       let e3 : (l && c && goodLayout (y .layout)) ≡ true = and-left (l && c && goodLayout (y .layout)) _ e in
       let e2 : (l && c) ≡ true = and-left (l && c) _ e3 in
-      go (block-good maxLineWidth n (length line) (and-left l c e2)) (block-good maxCharacterWidth m (length character) (and-right l c e2)) (and-right (l && c) _ e3) (and-right (l && c && goodLayout (y .layout)) _ e) b
+      go (block-good maxHeight h maxLineWidth n (length line) (and-left l c e2)) (block-good maxHeight h maxCharacterWidth m (length character) (and-right l c e2)) (and-right (l && c) _ e3) (and-right (l && c && goodLayout (y .layout)) _ e) b
     where
-      block-good : (most width bytes : ℕ) → goodBlock h most width bytes ≡ true → (1 ≤ h) × (h ≤ maxHeight) × (width ≤ most) × (bytes ≡ h * width)
-      block-good most width bytes e =
-          let t1 = leb 1 h in
-          let t2 = t1 && leb h maxHeight in
-          let t3 = t2 && leb width most in
-          let e3 : t3 ≡ true = and-left t3 _ e in
-          let e2 : t2 ≡ true = and-left t2 _ e3 in
-          (leb-true 1 h (and-left t1 _ e2), leb-true h maxHeight (and-right t1 _ e2), leb-true width most (and-right t2 _ e3), eqb-true bytes (h * width) (and-right t3 _ e))
-
       rules-good : (rules : ℕ) → goodKind (Controlled rules) ≡ true → (rules < 1) ⊎ (maxRules < rules) → ⊥
       rules-good rules e w =
           let low = leb-true 1 rules (and-left (leb 1 rules) _ e) in

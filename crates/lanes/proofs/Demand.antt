@@ -10,9 +10,8 @@ use native.Mathlib.Omega.{arith}
 use native.Mathlib.Decide.{decLt}
 use Rattle.subchars.specs.Pair.{blank}
 use Rattle.lanes.specs.Blocks.{Cells}
-use Rattle.lanes.specs.Overlap.{hasBlank, free, fitting, smushing}
+use Rattle.lanes.specs.Overlap.{facing, hasBlank, free, furthest, fitting, smushing}
 use Rattle.lanes.specs.Joined.{joinedCells}
-use Rattle.lanes.proofs.Fitting.{fitting-le}
 use Rattle.lanes.proofs.Smushing as laws
 use Rattle.lanes.proofs.Smushing.{Fails}
 use Rattle.lanes.proofs.Cells.{cell-left, cell-pair, cell-right}
@@ -23,6 +22,11 @@ use Rattle.lanes.proofs.Cells.{cell-left, cell-pair, cell-right}
 pub record Free (h n : ℕ) (a b : Cells) : Type 0 where
   pub free-if : (o : ℕ) → ((r i : ℕ) → r < h → i < o → hasBlank (a r (n - o + i)) (b r i) ≡ true) → free h n a b o ≡ true
   pub free-only-if : (o : ℕ) → free h n a b o ≡ true → (r i : ℕ) → r < h → i < o → hasBlank (a r (n - o + i)) (b r i) ≡ true
+
+-- The overlap f is the largest, at most the smaller length, that together with all smaller ones faces only pairs that pass the test.
+pub record Furthest (ok : ℕ → ℕ → Bool) (h n m : ℕ) (a b : Cells) (f : ℕ) : Type 0 where
+  pub passes : (k : ℕ) → k ≤ f → facing ok h n a b k ≡ true
+  pub largest : (o : ℕ) → o ≤ min n m → ((k : ℕ) → k ≤ o → facing ok h n a b k ≡ true) → (o ≡ f → ⊥) → o < f
 
 -- The overlap f is fitting's.
 pub record Fits (h n m : ℕ) (a b : Cells) (f : ℕ) : Type 0 where
@@ -45,13 +49,27 @@ module _ (h n m : ℕ) (a b : Cells) where
   pub free-is : Free h n a b
   free-is = record { free-if = laws.facing-of hasBlank h n a b; free-only-if = laws.facing-at hasBlank h n a b }
 
-  pub fits : Fits h n m a b (fitting h n m a b)
-  fits =
+  pub reaches : (ok : ℕ → ℕ → Bool) → Furthest ok h n m a b (furthest ok h n m a b)
+  reaches ok =
       record {
-        fitting-free = laws.fitting-free h n m a b;
-        fitting-largest = λ o u f other.
-            let l = laws.fitting-largest h n m a b o u f in elim (decLt o (fitting h n m a b)) [ yes p ↦ p | no q ↦ absurd (other (omega arith)) ];
+        passes = laws.furthest-passes h n m a b ok;
+        largest = λ o u f other.
+            let l = laws.furthest-largest h n m a b ok o u f in elim (decLt o (furthest ok h n m a b)) [ yes p ↦ p | no q ↦ absurd (other (omega arith)) ];
       }
+
+  -- by a test that a pair with a blank passes it is never below fitting's
+  pub furthest-more : {ok : ℕ → ℕ → Bool} → ((l r : ℕ) → hasBlank l r ≡ true → ok l r ≡ true) → fitting h n m a b ≤ furthest ok h n m a b
+  unfolding fitting
+  furthest-more {ok} f =
+      let g = furthest hasBlank h n m a b in
+      laws.furthest-largest h n m a b ok g (laws.furthest-le h n m a b hasBlank)
+      λ k l. laws.facing-mono hasBlank ok f h n a b k (laws.furthest-passes h n m a b hasBlank k l)
+
+  pub fits : Fits h n m a b (fitting h n m a b)
+  unfolding fitting
+  fits =
+      let f = reaches hasBlank in
+      record { fitting-free = f .passes; fitting-largest = f .largest }
 
   pub smushes : (joins : ℕ → ℕ → Bool) → Smushes joins h n m a b (fitting h n m a b) (smushing joins h n m a b)
   smushes joins =
@@ -105,13 +123,18 @@ module _ (p : Pairing) (h n m : ℕ) (a b : Cells) where
   pub taken-none : Taken (p .joins) h n m a b 0
   taken-none = record { overlap-narrower = omega arith; pairs-join = λ r i u v. absurd (omega arith) }
 
-  pub taken-fitting : Taken (p .joins) h n m a b (fitting h n m a b)
-  taken-fitting =
-      let f = fitting h n m a b in
+  -- the furthest overlap by a test whose pairs join
+  pub taken-furthest : (ok : ℕ → ℕ → Bool) → ((l r : ℕ) → ok l r ≡ true → p .joins l r ≡ true) → Taken (p .joins) h n m a b (furthest ok h n m a b)
+  taken-furthest ok f =
+      let s = furthest ok h n m a b in
       record {
-        overlap-narrower = fitting-le n m a b h;
-        pairs-join = λ r i u v. p .blank-joins _ _ (laws.facing-at hasBlank h n a b f (laws.fitting-free h n m a b f (omega arith)) r i u v);
+        overlap-narrower = laws.furthest-le h n m a b ok;
+        pairs-join = λ r i u v. f _ _ (laws.facing-at ok h n a b s (laws.furthest-passes h n m a b ok s (omega arith)) r i u v);
       }
+
+  pub taken-fitting : Taken (p .joins) h n m a b (fitting h n m a b)
+  unfolding fitting
+  taken-fitting = taken-furthest hasBlank (p .blank-joins)
 
   pub taken-smushing : Taken (p .joins) h n m a b (smushing (p .joins) h n m a b)
   taken-smushing =

@@ -1,22 +1,23 @@
--- The promises: every sentence of the three demands and every row of the refusal table, in the papers' order, each as a theorem about the
--- definitions that the contracts of the public calls cite. A statement stands here in full, but for a few data types of the crates below that it names:
+-- The promises: every sentence of the three demands, every row of the refusal table and the sentences of the requests that have landed, in the papers' order,
+-- each as a theorem about the definitions that the contracts of the public calls cite. A statement stands here in full, but for a few data types of the crates below that it names:
 -- how far the lines of a file are good (`Comes`, `Reaches`), how characters stand (`InOrder`, `EachTagged`), `Last`, `NoneFits` and `Fails`. Its proof is one
 -- line that cites the law, so that what lies behind need not be opened.
 -- Assumes nothing.
-use mathlib.Core.Path.{_≡_, ap}
+use mathlib.Core.Path.{_≡_, refl, ap}
 use mathlib.Core.Bool.{Bool, true, false}
 use mathlib.Core.List.{List, [], _∷_, _++_, map}
 use mathlib.Core.Logic.{_⊎_, _↔_, Iff·trans}
 use mathlib.Core.Option.{some}
-use Prim.Native.Nat.{ℕ, suc, _+_, _-_, _*_, _≤_, _<_, min}
+use Prim.Native.Nat.{ℕ, suc, _+_, _-_, _*_, _≤_, _<_, min, max}
 use lib.IntN.{ℤ, pos, natAbs, _-ℤ_}
 use lib.Signed.{leZ}
 use lib.ListN.{length, getD, take, drop, replicate}
+use borrow.Author.Tests.{eq-eqb, ne-eqb}
 use Rattle.ground.specs.Area.{zeros}
-use Rattle.ground.specs.Runs.{run, all, begins}
 use Rattle.ground.specs.Text.{byte, bytes, among}
-use Rattle.ground.specs.Limits.{maxFontLength, maxControlFile, maxText, maxLineWidth, maxHeight, maxCharacterWidth, maxRules, maxCharacters, maxCommands, maxStages, minScratch}
-use Rattle.ground.specs.Refusals.{refusal, fontTooLong, noSignature, badHardblank, badParameters, missingLine, badRow, badCodeTag, tooManyCharacters, areaTooSmall, controlFileTooLong, notACommand, badRanges, extendedCommand, tooManyCommands, textTooLong, lineTooWide, badShape}
+use Rattle.ground.specs.Limits.{maxFontLength, maxControlFile, maxText, maxLineWidth, maxHeight, maxStackHeight, maxCharacters, maxCommands, minScratch, minStackedScratch, maxCharacterWidth, maxRules, maxStages}
+use Rattle.ground.specs.Refusals.{refusal, fontTooLong, noSignature, badHardblank, badParameters, tooManyCharacters, areaTooSmall, controlFileTooLong, notACommand, badRanges, extendedCommand, tooManyCommands, textTooLong, lineTooWide, badShape, stackTooHigh, missingLine, badRow, badCodeTag}
+use Rattle.ground.specs.Runs.{run, all, begins}
 use Rattle.ground.specs.declared.refusals.Refusal.{Refusal}
 use Rattle.subchars.specs.declared.Code.{Code}
 use Rattle.subchars.specs.declared.SubCharacter.{SubCharacter}
@@ -24,14 +25,23 @@ use Rattle.subchars.specs.declared.Direction.{Direction}
 use Rattle.subchars.specs.declared.Layout.{Layout}
 use Rattle.subchars.specs.declared.Layout.the-variants.{FullWidth, Fitting, Smushing}
 use Rattle.subchars.specs.declared.Smushing.{Smushing as Kind}
-use Rattle.subchars.specs.declared.Smushing.the-variants.{Universal, Controlled}
+use Rattle.subchars.specs.declared.Smushing.the-variants.{Controlled, Universal}
+use Rattle.subchars.specs.declared.VerticalLayout.{VerticalLayout}
+use Rattle.subchars.specs.declared.VerticalLayout.the-variants as vertical
+use Rattle.subchars.specs.declared.VerticalSmushing.the-variants as vertically
 use Rattle.subchars.specs.declared.Mode.{Mode}
 use Rattle.subchars.specs.declared.Rule.{Rule}
 use Rattle.subchars.specs.declared.Joint.the-variants.{ByRule}
-use Rattle.subchars.specs.Pair.{legalHardblank, blank, joins, inSet, byRule, controlled, EveryRuleOf}
+use Rattle.subchars.specs.Layouts.{has, verticalValues, fullVertical}
+use Rattle.subchars.specs.Pair.{blank, blanked, joins, inSet, byRule, controlled, EveryRuleOf, legalHardblank}
 use Rattle.subchars.proofs.Rules as rules
 use Rattle.subchars.proofs.Joints as joints
-use Rattle.lanes.specs.Overlap.{hasBlank, free}
+use Rattle.vertical.specs.VerticalPair.{VerticalRule, EqualCharacter, VerticalLine, ruleValue, setHas, twoBars, ruleMerges, merges, mergedByte, barred, otherRules, EveryVerticalRuleOf}
+use Rattle.vertical.proofs.VerticalRules as vertical-rules
+use Rattle.vertical.proofs.GoodSets as vertical-sets
+use Rattle.lanes.specs.Blocks.{Cells}
+use Rattle.lanes.specs.Overlap.{hasBlank, free, facing, furthest}
+use Rattle.lanes.proofs.Smushing as lanes
 use Rattle.lanes.proofs.Smushing.{Fails}
 use Rattle.join.specs.Join.{Block, exactBlock, leftOf, rightOf, overlap, pairByte, besides}
 use Rattle.join.specs.declared.JoinAnswer.{JoinAnswer}
@@ -40,15 +50,27 @@ use Rattle.join.specs.JoinCall.{joinTells, joinTold, joinArea}
 use Rattle.join.proofs.Demand as demand
 use Rattle.join.proofs.Answers as joining
 use Rattle.join.proofs.Bytes.{joined-byte}
+use Rattle.stack.specs.declared.StackAnswer.{StackAnswer}
+use Rattle.stack.specs.declared.StackAnswer.the-variants as stack-is
+use Rattle.stack.specs.declared.StackAnswer.the-variants.{Stacked}
+use Rattle.stack.specs.Stack.{upright, stackOverlap, Stack, stacked}
+use Rattle.stack.specs.StackCall.{stackTells, noStack, stackOf, stackTold, stackArea}
+use Rattle.stack.proofs.Demand as stacking
+use Rattle.stack.proofs.Columns as columns
+use Rattle.stack.proofs.Filling as filling
+use Rattle.stack.proofs.Answers as stack-answers
+use Rattle.stack.proofs.Answers.{BadStack}
+use Rattle.stack.proofs.Bytes.{stacked-byte}
 use Rattle.figure.specs.declared.DrawAnswer.{DrawAnswer}
+use Rattle.figure.specs.Line.{attached, empty, shown}
 use Rattle.figure.specs.declared.DrawAnswer.the-variants as draw-is
-use Rattle.figure.specs.Line.{attached, empty, blanked, shown}
 use Rattle.figure.proofs.Folding.{first-whole}
 use Rattle.join.specs.Writing.{Like}
 use Rattle.lines.specs.Lines.{TextLine, linesFrom, textAt}
 use Rattle.lines.specs.Words.{isBlank, firstWord, afterBlanks}
 use Rattle.lines.specs.Numbers.{codeNumber}
 use Rattle.lines.specs.declared.numbers.CodeNumber.the-variants.{Named, NotCode}
+use Rattle.header.specs.declared.Given.the-variants.{Absent}
 use Rattle.header.specs.declared.Header.{Header}
 use Rattle.header.specs.declared.Parameters.{Parameters}
 use Rattle.header.specs.declared.ParameterStep.the-variants.{All}
@@ -93,6 +115,10 @@ use Rattle.drawing.specs.Drawing.{fontLine, lineOf, textCodes}
 use Rattle.drawing.specs.Steps.{withCharacter}
 use Rattle.drawing.proofs.Answers as drawing
 use Rattle.drawing.proofs.DrawingLaws as drawings
+use Rattle.twolines.specs.TwoLines.{verticalOf, verticalBy, TwoLines, drawLines, linesTold, linesOutput}
+use Rattle.twolines.proofs.Answers as line-answers
+use Rattle.twolines.proofs.TableLaws as line-rows
+use Rattle.twolines.proofs.Bytes as line-bytes
 use Rattle.wattleslate.specs.declared.RowRefusal.the-variants.{NotRefused, Refused}
 use Rattle.wattleslate.specs.RowCall.{rowTells, rowTold, rowBytes}
 use Rattle.wattleslate.specs.declared.LookUpAnswer.the-variants as look-up-is
@@ -589,3 +615,362 @@ module _ (size : ℕ) (s control text : List ℕ) (room : ℕ) (h : Header) (es 
 -- "Empty text gives Height LFs."
 empty-text : (hardblank h : ℕ) → shown hardblank h empty ≡ replicate h (byte "\n")
 empty-text = drawings.empty-shown
+
+-- ================================================================ document 02, Q-1
+
+-- "Fitting and smushing (16384 before 8192), universal or with the five rules of source document 000": a Full_Layout with 16384 is smushing, with 8192 or
+-- without it;
+module _ (full : ℕ) where
+  -- universal where it has no rule,
+  full-layout-universal : has full 16384 ≡ true → verticalValues full ≡ 0 → fullVertical full ≡ vertical.Smushing vertically.Universal
+  unfolding fullVertical
+  full-layout-universal e none = rw (e, eq-eqb (verticalValues full) 0 none)
+
+  -- else controlled by those that it has;
+  full-layout-controlled : has full 16384 ≡ true → (verticalValues full ≡ 0 → ⊥) → fullVertical full ≡ vertical.Smushing (vertically.Controlled (verticalValues full))
+  unfolding fullVertical
+  full-layout-controlled e some-rule = rw (e, ne-eqb (verticalValues full) 0 some-rule)
+
+  full-layout-rules : (rule : VerticalRule) → setHas (verticalValues full) rule ≡ has full (ruleValue rule)
+  full-layout-rules = vertical-sets.full-rules full
+
+  -- without 16384, one with 8192 is fitting,
+  full-layout-fitting : has full 16384 ≡ false → has full 8192 ≡ true → fullVertical full ≡ vertical.Fitting
+  unfolding fullVertical
+  full-layout-fitting e f = rw (e, f)
+
+  -- and with neither it is full height.
+  full-layout-full-height : has full 16384 ≡ false → has full 8192 ≡ false → fullVertical full ≡ vertical.FullHeight
+  unfolding fullVertical
+  full-layout-full-height e f = rw (e, f)
+
+-- "The five rules of source document 000": no pair is joined by two of the four but 4096.
+no-pair-by-two-vertical-rules : (u l : ℕ) (p q : VerticalRule) (x y : ℕ) → (p ≡ VerticalLine → ⊥) → (q ≡ VerticalLine → ⊥) → ruleMerges p u l ≡ some x → ruleMerges q u l ≡ some y → p ≡ q
+no-pair-by-two-vertical-rules = vertical-rules.no-two-rules
+
+-- "For universal the lower block is the later one": of two visible sub-characters the lower one stands.
+lower-is-the-later-one : (u l : ℕ) → (l ≡ blank → ⊥) → mergedByte (vertical.Smushing vertically.Universal) u l ≡ l
+lower-is-the-later-one = vertical-rules.universal-lower-stands
+
+-- Any two blocks a, n rows high, and b below it, m rows high.
+module _ (hardblank n : ℕ) (a : Block) (m : ℕ) (b : Block) where
+  -- Their columns: column c, row r.
+  abbrev above : Cells
+  above = upright hardblank a
+
+  abbrev below : Cells
+  below = upright hardblank b
+
+  -- "Hardblanks are first made blanks,
+  hardblanks-made-blanks : (c r : ℕ) → c < a .width → a .cells r c ≡ hardblank → above c r ≡ blank
+  hardblanks-made-blanks = filling.hardblank-blanked hardblank a
+
+  others-as-they-are : (c r : ℕ) → c < a .width → (a .cells r c ≡ hardblank → ⊥) → above c r ≡ a .cells r c
+  others-as-they-are = filling.other-kept hardblank a
+
+  hardblanks-made-blanks-below : (c r : ℕ) → c < b .width → b .cells r c ≡ hardblank → below c r ≡ blank
+  hardblanks-made-blanks-below = filling.hardblank-blanked hardblank b
+
+  others-as-they-are-below : (c r : ℕ) → c < b .width → (b .cells r c ≡ hardblank → ⊥) → below c r ≡ b .cells r c
+  others-as-they-are-below = filling.other-kept hardblank b
+
+  -- the narrower block is filled with blanks on the right."
+  filled-on-the-right : (c r : ℕ) → a .width ≤ c → above c r ≡ blank
+  filled-on-the-right = columns.cell-beyond hardblank a
+
+  filled-on-the-right-below : (c r : ℕ) → b .width ≤ c → below c r ≡ blank
+  filled-on-the-right-below = columns.cell-beyond hardblank b
+
+  abbrev greaterWidth : ℕ
+  greaterWidth = max (a .width) (b .width)
+
+  abbrev smallerHeight : ℕ
+  smallerHeight = min n m
+
+  abbrev freeRows : ℕ → Bool
+  freeRows o = free greaterWidth n above below o
+
+  abbrev rowsBy : VerticalLayout → ℕ
+  rowsBy layout = stackOverlap layout hardblank n a m b
+
+  abbrev universally : VerticalLayout
+  universally = vertical.Smushing vertically.Universal
+
+  abbrev ruled : ℕ → VerticalLayout
+  ruled set = vertical.Smushing (vertically.Controlled set)
+
+  -- "Demand 3 then speaks of columns too (upper for left, lower for right, height and width exchanged, rows and columns too), supersmushing apart."
+  -- "An overlap, at most the smaller height, is free if every facing pair of sub-characters has a blank in it."
+  rows-free-if : (o : ℕ) → ((c i : ℕ) → c < greaterWidth → i < o → hasBlank (above c (n - o + i)) (below c i) ≡ true) → freeRows o ≡ true
+  rows-free-if = stacking.free hardblank n a m b .free-if
+
+  rows-free-only-if : (o : ℕ) → freeRows o ≡ true → (c i : ℕ) → c < greaterWidth → i < o → hasBlank (above c (n - o + i)) (below c i) ≡ true
+  rows-free-only-if = stacking.free hardblank n a m b .free-only-if
+
+  -- "Full height overlaps nothing."
+  full-height-overlaps-nothing : rowsBy vertical.FullHeight ≡ 0
+  full-height-overlaps-nothing = stacking.full-height-nothing hardblank n a m b
+
+  -- "Fitting takes an overlap that is free together with all smaller ones,
+  rows-fitting-free : (k : ℕ) → k ≤ rowsBy vertical.Fitting → freeRows k ≡ true
+  rows-fitting-free = stacking.fits hardblank n a m b .fitting-free
+
+  -- and every other such overlap is smaller."
+  rows-fitting-largest : (o : ℕ) → o ≤ smallerHeight → ((k : ℕ) → k ≤ o → freeRows k ≡ true) → (o ≡ rowsBy vertical.Fitting → ⊥) → o < rowsBy vertical.Fitting
+  rows-fitting-largest = stacking.fits hardblank n a m b .fitting-largest
+
+  -- "Smushing either takes exactly one row more than fitting or stays at fitting's overlap.
+  universal-one-more-or-stays : (rowsBy universally ≡ rowsBy vertical.Fitting + 1) ⊎ (rowsBy universally ≡ rowsBy vertical.Fitting)
+  universal-one-more-or-stays = stacking.universal hardblank n a m b .one-more-or-stays
+
+  -- It stays exactly when the smaller height is used up there, or when with that row more some column faces a pair that the mode cannot join":
+  -- universal,
+  universal-stays-if : (rowsBy vertical.Fitting ≡ smallerHeight) ⊎ Fails (merges universally) greaterWidth n above below (rowsBy vertical.Fitting + 1) → rowsBy universally ≡ rowsBy vertical.Fitting
+  universal-stays-if = stacking.universal hardblank n a m b .stays-if
+
+  universal-stays-only-if : rowsBy universally ≡ rowsBy vertical.Fitting → (rowsBy vertical.Fitting ≡ smallerHeight) ⊎ Fails (merges universally) greaterWidth n above below (rowsBy vertical.Fitting + 1)
+  universal-stays-only-if = stacking.universal hardblank n a m b .stays-only-if
+
+  -- and by a set without 4096.
+  module _ (set : ℕ) (without : setHas set VerticalLine ≡ false) where
+    ruled-one-more-or-stays : (rowsBy (ruled set) ≡ rowsBy vertical.Fitting + 1) ⊎ (rowsBy (ruled set) ≡ rowsBy vertical.Fitting)
+    ruled-one-more-or-stays = stacking.controlled hardblank n a m b set without .one-more-or-stays
+
+    ruled-stays-if : (rowsBy vertical.Fitting ≡ smallerHeight) ⊎ Fails (merges (ruled set)) greaterWidth n above below (rowsBy vertical.Fitting + 1) → rowsBy (ruled set) ≡ rowsBy vertical.Fitting
+    ruled-stays-if = stacking.controlled hardblank n a m b set without .stays-if
+
+    ruled-stays-only-if : rowsBy (ruled set) ≡ rowsBy vertical.Fitting → (rowsBy vertical.Fitting ≡ smallerHeight) ⊎ Fails (merges (ruled set)) greaterWidth n above below (rowsBy vertical.Fitting + 1)
+    ruled-stays-only-if = stacking.controlled hardblank n a m b set without .stays-only-if
+
+  -- "If one controlled set has every rule of another, it never gives the same blocks a smaller overlap."
+  more-vertical-rules-no-smaller-overlap : (p q : ℕ) → setHas p VerticalLine ≡ false → setHas q VerticalLine ≡ false → EveryVerticalRuleOf p q → rowsBy (ruled p) ≤ rowsBy (ruled q)
+  more-vertical-rules-no-smaller-overlap = stacking.more-rules-no-less hardblank n a m b
+
+  -- "With supersmushing, take the largest overlap, at most the smaller height, that together with all smaller ones faces only pairs with a blank or of two
+  -- bars";
+  abbrev barredRows : ℕ
+  barredRows = furthest barred greaterWidth n m above below
+
+  barred-if : (o : ℕ) → ((c i : ℕ) → c < greaterWidth → i < o → barred (above c (n - o + i)) (below c i) ≡ true) → facing barred greaterWidth n above below o ≡ true
+  barred-if = lanes.facing-of barred greaterWidth n above below
+
+  barred-only-if : (o : ℕ) → facing barred greaterWidth n above below o ≡ true → (c i : ℕ) → c < greaterWidth → i < o → barred (above c (n - o + i)) (below c i) ≡ true
+  barred-only-if = lanes.facing-at barred greaterWidth n above below
+
+  barred-rows-at-most-smaller-height : barredRows ≤ smallerHeight
+  barred-rows-at-most-smaller-height = lanes.furthest-le greaterWidth n m above below barred
+
+  barred-rows-face-bars : (k : ℕ) → k ≤ barredRows → facing barred greaterWidth n above below k ≡ true
+  barred-rows-face-bars = stacking.bars-furthest hardblank n a m b .passes
+
+  barred-rows-largest : (o : ℕ) → o ≤ smallerHeight → ((k : ℕ) → k ≤ o → facing barred greaterWidth n above below k ≡ true) → (o ≡ barredRows → ⊥) → o < barredRows
+  barred-rows-largest = stacking.bars-furthest hardblank n a m b .largest
+
+  -- "if it exceeds the fitting overlap it is the answer,
+  supersmushing-exceeds : (set : ℕ) → setHas set VerticalLine ≡ true → rowsBy vertical.Fitting < barredRows → rowsBy (ruled set) ≡ barredRows
+  supersmushing-exceeds = stacking.super-exceeds hardblank n a m b
+
+  -- else the other rules are tried one row further."
+  else-the-other-rules : (set : ℕ) → setHas set VerticalLine ≡ true → barredRows ≤ rowsBy vertical.Fitting → rowsBy (ruled set) ≡ rowsBy (ruled (otherRules set))
+  else-the-other-rules = stacking.super-others hardblank n a m b
+
+  -- The result, in any layout.
+  module _ (layout : VerticalLayout) where
+    abbrev rows : ℕ
+    rows = rowsBy layout
+
+    abbrev stackResult : Stack
+    stackResult = stacked layout hardblank n a m b
+
+    -- "An overlap, at most the smaller height."
+    overlap-at-most-smaller-height : rows ≤ smallerHeight
+    overlap-at-most-smaller-height = stacking.overlap-smaller hardblank n a m b layout
+
+    overlap-told : stackResult .overlap ≡ rows
+    overlap-told = stacking.stack-overlap hardblank n a m b layout
+
+    -- "The result height, the sum of both heights less the overlap."
+    result-height : stackResult .height ≡ n + m - rows
+    result-height = stacking.stack-cells hardblank n a m b layout .result-width
+
+    -- "The narrower block is filled": the result is as wide as the wider one.
+    result-as-wide-as-the-wider : stackResult .block .width ≡ greaterWidth
+    result-as-wide-as-the-wider = stacking.stack-width hardblank n a m b layout
+
+    -- "Unpaired sub-characters stay;
+    upper-stays : (c r : ℕ) → r < n - rows → stackResult .block .cells r c ≡ above c r
+    upper-stays = stacking.stack-cells hardblank n a m b layout .left-stays
+
+    lower-stays : (c r : ℕ) → n ≤ r → stackResult .block .cells r c ≡ below c (r - (n - rows))
+    lower-stays = stacking.stack-cells hardblank n a m b layout .right-stays
+
+    -- a blank yields to its partner;
+    upper-blank-yields : (c r : ℕ) → n - rows ≤ r → r < n → above c r ≡ blank → stackResult .block .cells r c ≡ below c (r - (n - rows))
+    upper-blank-yields = stacking.stack-cells hardblank n a m b layout .left-blank-yields
+
+    lower-blank-yields : (c r : ℕ) → n - rows ≤ r → r < n → below c (r - (n - rows)) ≡ blank → stackResult .block .cells r c ≡ above c r
+    lower-blank-yields = stacking.stack-cells hardblank n a m b layout .right-blank-yields
+
+    -- every other pair becomes its joint": it has one, and that is the sub-character.
+    stacked-pair-has-a-joint : (c r : ℕ) → c < greaterWidth → n - rows ≤ r → r < n → merges layout (above c r) (below c (r - (n - rows))) ≡ true
+    stacked-pair-has-a-joint = stacking.stack-cells hardblank n a m b layout .pair-joined
+
+    stacked-joint-stands : (c r : ℕ) → n - rows ≤ r → r < n → stackResult .block .cells r c ≡ mergedByte layout (above c r) (below c (r - (n - rows)))
+    stacked-joint-stands = stacking.stack-cells hardblank n a m b layout .joint-stands
+
+-- Two bars: with 4096 they become a bar; one row further, where the other rules are tried, they need 256.
+module _ (set u l : ℕ) where
+  two-bars-become-a-bar : setHas set VerticalLine ≡ true → twoBars u l ≡ true → mergedByte (vertical.Smushing (vertically.Controlled set)) u l ≡ byte "|"
+  two-bars-become-a-bar = vertical-rules.bars-become-a-bar set u l
+
+  two-bars-need-256 : twoBars u l ≡ true → merges (vertical.Smushing (vertically.Controlled (otherRules set))) u l ≡ setHas set EqualCharacter
+  two-bars-need-256 = vertical-rules.bars-need-256 set u l
+
+-- "Refusals: 17 as in the join, but upper height to 64, both widths to 1,000 and the five rules; 18, stack over 64 rows; 9", each exactly when, at place 0.
+module _ (layout : VerticalLayout) (hardblank n upperWidth : ℕ) (upper : List ℕ) (m lowerWidth : ℕ) (lower : List ℕ) (room : ℕ) where
+  abbrev bad : Type 0
+  bad = BadStack layout hardblank n upperWidth upper m lowerWidth lower
+
+  -- of bad shape: "upper height outside 1 to 64, lower height outside 1 to 32, a width over 1,000, a hardblank that 3 refuses, a controlled set that is no sum of one to
+  -- five of the rules, a block not exactly height times width long",
+  bad-stack-is :
+      bad ↔
+      ((n < 1) ⊎
+      (maxStackHeight < n) ⊎
+      (m < 1) ⊎
+      (maxHeight < m) ⊎
+      (maxLineWidth < upperWidth) ⊎
+      (maxLineWidth < lowerWidth) ⊎
+      (legalHardblank hardblank ≡ false) ⊎
+      ((set : ℕ) × (layout ≡ vertical.Smushing (vertically.Controlled set)) × (vertical-sets.SumOfRules set → ⊥)) ⊎
+      (length upper ≡ n * upperWidth → ⊥) ⊎
+      (length lower ≡ m * lowerWidth → ⊥))
+  bad-stack-is = stack-answers.stack-listed layout hardblank n upperWidth upper m lowerWidth lower
+
+  abbrev stackAsked : Stack
+  stackAsked = stackOf layout hardblank n upperWidth upper m lowerWidth lower
+
+  refusal-17-of-stack : stackTold layout hardblank n upperWidth upper m lowerWidth lower room ≡ noStack badShape ↔ bad
+  refusal-17-of-stack = stack-answers.exactly-17 layout hardblank n upperWidth upper m lowerWidth lower room
+
+  refusal-18-of-stack : stackTold layout hardblank n upperWidth upper m lowerWidth lower room ≡ noStack stackTooHigh ↔ ((bad → ⊥) × (maxStackHeight < stackAsked .height))
+  refusal-18-of-stack = stack-answers.exactly-18 layout hardblank n upperWidth upper m lowerWidth lower room
+
+  refusal-9-of-stack : stackTold layout hardblank n upperWidth upper m lowerWidth lower room ≡ noStack areaTooSmall ↔ ((bad → ⊥) × (stackAsked .height ≤ maxStackHeight) × (room < stackAsked .height * stackAsked .block .width))
+  refusal-9-of-stack = stack-answers.exactly-9 layout hardblank n upperWidth upper m lowerWidth lower room
+
+  -- Otherwise the answer is overlap, height and width of the result.
+  stack-stacks : stackTold layout hardblank n upperWidth upper m lowerWidth lower room ≡ stackTells (Stacked (stackAsked .overlap) (stackAsked .height) (stackAsked .block .width)) ↔
+      ((bad → ⊥) × (stackAsked .height ≤ maxStackHeight) × (stackAsked .height * stackAsked .block .width ≤ room))
+  stack-stacks = stack-answers.exactly-stacked layout hardblank n upperWidth upper m lowerWidth lower room
+
+  -- There is no other answer.
+  stack-answers-so : stack-answers.StacksTo layout hardblank n upperWidth upper m lowerWidth lower room (stackTold layout hardblank n upperWidth upper m lowerWidth lower room)
+  stack-answers-so = stack-answers.one-of layout hardblank n upperWidth upper m lowerWidth lower room
+
+  -- "A refusal fills every lent writable area with zeros."
+  stack-wiped : stackTold layout hardblank n upperWidth upper m lowerWidth lower room .refused ≡ true → stackArea layout hardblank n upperWidth upper m lowerWidth lower room ≡ zeros room
+  stack-wiped = wiping.stack-wiped layout hardblank n upperWidth upper m lowerWidth lower room
+
+  -- "Blocks lie row after row": byte r * width + c of the area that stack leaves is sub-character c of row r of that result.
+  stack-byte : stackTold layout hardblank n upperWidth upper m lowerWidth lower room .refused ≡ false → (r c : ℕ) → r < stackAsked .height → c < stackAsked .block .width →
+      getD (stackArea layout hardblank n upperWidth upper m lowerWidth lower room) (r * stackAsked .block .width + c) 0 ≡ stackAsked .block .cells r c
+  stack-byte = stacked-byte layout hardblank n upperWidth upper m lowerWidth lower room
+
+-- "Vertical full height (also without Full_Layout)."
+absent-full-layout-full-height : verticalOf Absent ≡ vertical.FullHeight
+absent-full-layout-full-height = refl
+
+-- Two texts drawn by a font s and a control file, one above the other: "9 (scratch under 64,000 ..), the font's, the control file's, 15 (either text), .. 16
+-- (either line), 9 (out)".
+module _ (size : ℕ) (s control upper lower : List ℕ) (room : ℕ) where
+  -- The scratch is large enough, and the files say this.
+  abbrev BothFilesSay : Header → List Entry → List Command → ℕ → Type 0
+  BothFilesSay h es cs k = (minStackedScratch ≤ size) × (reading s ≡ says h es) × (flc.control control ≡ flc.reads cs k)
+
+  -- "Both texts drawn as lines by the font's horizontal layout and direction,
+  abbrev upperLine : Header → List Entry → List Command → ℕ → Block
+  upperLine h es cs k = fontLine s h es cs k upper
+
+  abbrev lowerLine : Header → List Entry → List Command → ℕ → Block
+  lowerLine h es cs k = fontLine s h es cs k lower
+
+  -- then stacked by its vertical layout."
+  abbrev linesStacked : Header → List Entry → List Command → ℕ → Stack
+  linesStacked h es cs k = stacked (verticalOf (h .«full_layout»)) (h .hardblank .0) (h .height) (upperLine h es cs k) (h .height) (lowerLine h es cs k)
+
+  -- Neither text is too long and neither line too wide.
+  abbrev BothLinesFit : Header → List Entry → List Command → ℕ → Type 0
+  BothLinesFit h es cs k =
+      (length upper ≤ maxText) × (length lower ≤ maxText) × (upperLine h es cs k .width ≤ maxLineWidth) × (lowerLine h es cs k .width ≤ maxLineWidth)
+
+  abbrev linesDrawn : TwoLines
+  linesDrawn = drawLines size s control upper lower
+
+  abbrev DrawsStacked : StackAnswer → Type 0
+  DrawsStacked a = linesTold linesDrawn room ≡ stackTells a
+
+  font-refusals-of-draw-stacked : (r : Refusal) → r .number ≤ tooManyCharacters → DrawsStacked (stack-is.Refused r) ↔ ((minStackedScratch ≤ size) × (reading s ≡ refuses r))
+  font-refusals-of-draw-stacked = line-rows.row-font size s control upper lower room
+
+  control-refusals-of-draw-stacked : (r : Refusal) → controlFileTooLong ≤ r .number → r .number ≤ tooManyCommands →
+      DrawsStacked (stack-is.Refused r) ↔ ((minStackedScratch ≤ size) × (h : Header) × (es : List Entry) × (reading s ≡ says h es) × (flc.control control ≡ flc.refuses r))
+  control-refusals-of-draw-stacked = line-rows.row-control size s control upper lower room
+
+  -- 9, at 0: the scratch, or else, behind all others, the output, each row of the stack and an LF.
+  refusal-9-of-draw-stacked : (p : ℕ) →
+      DrawsStacked (stack-is.Refused (refusal areaTooSmall p)) ↔
+      ((p ≡ 0) ×
+      ((size < minStackedScratch) ⊎
+      ((h : Header) × (es : List Entry) × (cs : List Command) × (k : ℕ) × (BothFilesSay h es cs k) × (BothLinesFit h es cs k) ×
+      (room < linesStacked h es cs k .height * (linesStacked h es cs k .block .width + 1)))))
+  refusal-9-of-draw-stacked = line-rows.row-9 size s control upper lower room
+
+  -- 15, at 0, "either text".
+  refusal-15-of-draw-stacked : (p : ℕ) →
+      DrawsStacked (stack-is.Refused (refusal textTooLong p)) ↔
+      ((p ≡ 0) × (h : Header) × (es : List Entry) × (cs : List Command) × (k : ℕ) × (BothFilesSay h es cs k) × ((maxText < length upper) ⊎ (maxText < length lower)))
+  refusal-15-of-draw-stacked = line-rows.row-15 size s control upper lower room
+
+  -- 16, at 0, "either line".
+  refusal-16-of-draw-stacked : (p : ℕ) →
+      DrawsStacked (stack-is.Refused (refusal lineTooWide p)) ↔
+      ((p ≡ 0) × (h : Header) × (es : List Entry) × (cs : List Command) × (k : ℕ) × (BothFilesSay h es cs k) × (length upper ≤ maxText) × (length lower ≤ maxText) ×
+      ((maxLineWidth < upperLine h es cs k .width) ⊎ (maxLineWidth < lowerLine h es cs k .width)))
+  refusal-16-of-draw-stacked = line-rows.row-16 size s control upper lower room
+
+  -- Otherwise "overlap, height, width" of the stack.
+  draws-stacked-otherwise : (o n w : ℕ) →
+      DrawsStacked (Stacked o n w) ↔
+      ((h : Header) × (es : List Entry) × (cs : List Command) × (k : ℕ) × (BothFilesSay h es cs k) × (BothLinesFit h es cs k) ×
+      (linesStacked h es cs k .height * (linesStacked h es cs k .block .width + 1) ≤ room) ×
+      (o ≡ linesStacked h es cs k .overlap) × (n ≡ linesStacked h es cs k .height) × (w ≡ linesStacked h es cs k .block .width))
+  draws-stacked-otherwise = line-rows.row-stacked size s control upper lower room
+
+  -- It has no refusal but those from 1 to 16:
+  refusals-of-draw-stacked : linesTold linesDrawn room .refused ≡ true → (fontTooLong ≤ linesTold linesDrawn room .number) × (linesTold linesDrawn room .number ≤ lineTooWide)
+  refusals-of-draw-stacked e = (line-answers.refused-tells size s control upper lower room e .number-from-1, line-answers.refused-tells size s control upper lower room e .number-to-16)
+
+  -- "18 cannot come (twice 32 rows)."
+  no-refusal-18-of-draw-stacked : linesTold linesDrawn room .number ≡ stackTooHigh → ⊥
+  no-refusal-18-of-draw-stacked = line-answers.never-18 size s control upper lower room
+
+  -- "A refusal fills every lent writable area with zeros"; the scratch is zeros after every answer by the call's contract.
+  draw-stacked-wiped : linesTold linesDrawn room .refused ≡ true → linesOutput linesDrawn room ≡ zeros room
+  draw-stacked-wiped = wiping.lines-wiped linesDrawn room
+
+  -- "Closed up as the font says": the vertical layout is that of the font's Full_Layout.
+  vertical-layout-is-the-fonts : (h : Header) (es : List Entry) → reading s ≡ says h es → verticalBy (reading s) ≡ verticalOf (h .«full_layout»)
+  vertical-layout-is-the-fonts h es e = ap verticalBy e
+
+  -- "Output is each row, then LF": of two texts that are drawn,
+  module _ (h : Header) (es : List Entry) (cs : List Command) (k : ℕ) (say : BothFilesSay h es cs k) (fit : BothLinesFit h es cs k) where
+    abbrev drawnStack : Stack
+    drawnStack = linesStacked h es cs k
+
+    module _ (m : drawnStack .height * (drawnStack .block .width + 1) ≤ room) where
+      draw-stacked-byte : (r c : ℕ) → r < drawnStack .height → c < drawnStack .block .width → getD (linesOutput linesDrawn room) (r * (drawnStack .block .width + 1) + c) 0 ≡ drawnStack .block .cells r c
+      draw-stacked-byte = line-bytes.output-byte size s control upper lower room (line-rows.files size s control upper lower room h es cs k say) (line-rows.fits size s control upper lower room h es cs k say fit) m
+
+      draw-stacked-lf : (r : ℕ) → r < drawnStack .height → getD (linesOutput linesDrawn room) (r * (drawnStack .block .width + 1) + drawnStack .block .width) 0 ≡ byte "\n"
+      draw-stacked-lf = line-bytes.output-lf size s control upper lower room (line-rows.files size s control upper lower room h es cs k say) (line-rows.fits size s control upper lower room h es cs k say fit) m

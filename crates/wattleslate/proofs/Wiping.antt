@@ -5,13 +5,15 @@ use mathlib.Core.Bool.{Bool, true, cond, false≢true}
 use mathlib.Core.List.{List, []}
 use Prim.Native.Nat.{ℕ, _-_}
 use native.Mathlib.Omega.{arith}
-use lib.IntN.{ℤ, pos}
+use lib.IntN.{pos}
 use lib.ListN.{length, replicate}
 use Rattle.ground.specs.Area.{zeros, padded}
 use Rattle.ground.specs.declared.refusals.Refusal.{Refusal}
 use Rattle.subchars.specs.declared.Mode.{Mode}
+use Rattle.subchars.specs.declared.VerticalLayout.{VerticalLayout}
 use Rattle.join.specs.Join.{exactBlock, leftOf, rightOf, besides, rowsOf}
 use Rattle.join.specs.JoinCall.{joinTold, joinArea}
+use Rattle.stack.specs.StackCall.{stackOf, stackRows, stackTold, stackArea}
 use Rattle.figure.specs.declared.DrawAnswer.{DrawAnswer}
 use Rattle.figure.specs.declared.DrawAnswer.the-variants.{Drawn, Refused}
 use Rattle.figure.specs.Line.{shown, outputOf, drawnOnly, outputBytes}
@@ -20,6 +22,7 @@ use Rattle.entries.specs.Filling.{fontReading, zeroEntry, indexOf}
 use Rattle.flc.specs.Control as flc
 use Rattle.flc.specs.Lists.{CommandLists, commandLists, listsOf, controlReading}
 use Rattle.drawing.specs.Drawing.{Lined, lined, unlined, drawLined, linedAnswer, bytesOf}
+use Rattle.twolines.specs.TwoLines.{TwoLines, linesTold, linesBytes, linesOutput}
 use Rattle.wattleslate.specs.DrawCall.{drawTells, drawTold, drawOutput}
 
 -- a number less 0
@@ -42,6 +45,12 @@ join-wiped y h n line m character room e =
     let f = besides y h (leftOf (y .direction) (exactBlock n line) (exactBlock m character)) (rightOf (y .direction) (exactBlock n line) (exactBlock m character)) in
     ap (λ (b : Bool). padded (cond b [] (rowsOf (f .cells) h (f .width))) room) e ∙ ap zeros (less-none room)
 
+pub stack-wiped : (layout : VerticalLayout) (hardblank n upperWidth : ℕ) (upper : List ℕ) (m lowerWidth : ℕ) (lower : List ℕ) (room : ℕ) →
+    stackTold layout hardblank n upperWidth upper m lowerWidth lower room .refused ≡ true → stackArea layout hardblank n upperWidth upper m lowerWidth lower room ≡ zeros room
+unfolding stackArea
+stack-wiped layout hardblank n upperWidth upper m lowerWidth lower room e =
+    ap (λ (b : Bool). padded (cond b [] (stackRows (stackOf layout hardblank n upperWidth upper m lowerWidth lower))) room) e ∙ ap zeros (less-none room)
+
 pub draw-wiped : (size : ℕ) (s control text : List ℕ) (room : ℕ) → drawTold size s control text room .refused ≡ true → drawOutput size s control text room ≡ zeros room
 unfolding drawTold drawOutput linedAnswer bytesOf outputBytes
 draw-wiped size s control text room e = ap (λ (b : List ℕ). padded b room) (none (drawLined size s control text) e) ∙ ap zeros (less-none room)
@@ -53,3 +62,7 @@ draw-wiped size s control text room e = ap (λ (b : List ℕ). padded b room) (n
     none : (l : Lined) → drawTells (linedAnswer l room) .refused ≡ true → bytesOf l room ≡ []
     none (lined y h l) q = put-none (outputOf h l room) (shown (y .hardblank .0) h l) q
     none (unlined r) q = refl
+
+pub lines-wiped : (t : TwoLines) (room : ℕ) → linesTold t room .refused ≡ true → linesOutput t room ≡ zeros room
+unfolding linesOutput
+lines-wiped t room e = ap (λ (b : Bool). padded (cond b [] (linesBytes t)) room) e ∙ ap zeros (less-none room)

@@ -17,16 +17,21 @@ pub use reader::FontAnswer;
 pub use reader::Use;
 use request::Requested;
 use request::Sought;
+pub use stack::StackAnswer;
 pub use subchars::Code;
 pub use subchars::Direction;
 pub use subchars::Layout;
 use subchars::Mode;
 pub use subchars::Smushing;
 pub use subchars::SubCharacter;
+pub use subchars::VerticalLayout;
+pub use subchars::VerticalSmushing;
 ghost use mathlib.Core.Path.{_≡_};
 ghost use lib.ListN.{length};
 ghost use Rattle.ground.specs.Area.{zeros};
 ghost use Rattle.join.specs.JoinCall.{JoinGives};
+ghost use Rattle.stack.specs.StackCall.{StackGives};
+ghost use Rattle.twolines.specs.TwoLines.{drawLines, LinesOut};
 ghost use Rattle.request.specs.Request.{rowRequest};
 ghost use Rattle.flc.specs.Lists.{commandLists};
 ghost use Rattle.wattleslate.specs.LookUpCall.{lookUpTells, lookUpTold};
@@ -150,6 +155,34 @@ pub fn join(
     )
 }
 
+// Stacks a lower block under an upper one, closed up as the layout says, and writes the result to `out`, row after row with zeros behind. Hardblanks
+// are made blanks, and the narrower block is filled with blanks on the right. A refusal (17, 18, 9) leaves `out` all zeros.
+pub fn stack(
+    upper: &[u8],
+    upper_width: usize,
+    upper_height: usize,
+    lower: &[u8],
+    lower_width: usize,
+    lower_height: usize,
+    hardblank: SubCharacter,
+    layout: VerticalLayout,
+    out: &mut [u8],
+) -> StackAnswer
+    ensures { λ r. ⌜ StackGives layout (hardblank .0) «upper_height» «upper_width» (now (upper .entry)) «lower_height» «lower_width» (now (lower .entry)) (length (now (out .entry))) r (now (out .exit)) ⌝ }
+{
+    stack::stacking::stack_blocks(
+        upper,
+        upper_width,
+        upper_height,
+        lower,
+        lower_width,
+        lower_height,
+        hardblank,
+        layout,
+        out,
+    )
+}
+
 // Draws a line of text by a font and a control file, and writes it to `out`: each row with hardblanks as blanks, then LF, with zeros behind. The
 // answer gives the width. `scratch` has 32,000 bytes or more, and is all zeros afterwards. Refusals: 9 for the scratch, the font's (1 to 8), the
 // control file's (10 to 14), 15, 16, then 9 for `out`; they leave `out` all zeros.
@@ -165,4 +198,21 @@ pub fn draw(
     ensures scratch { λ r. ⌜ now (scratch .exit) ≡ zeros (length (now (scratch .entry))) ⌝ }
 {
     drawing::draw(font, control, text, scratch, out)
+}
+
+// Draws two texts by a font and a control file, the lower line under the upper one and closed up as the font's vertical layout says, and writes them to
+// `out`: each row, then LF, with zeros behind. `scratch` has 64,000 bytes or more, and is all zeros afterwards. Refusals: 9 for the scratch, the font's
+// (1 to 8), the control file's (10 to 14), 15 and 16 of either, then 9 for `out`; they leave `out` all zeros.
+pub fn draw_stacked(
+    font: &[u8],
+    control: &[u8],
+    upper: &[u8],
+    lower: &[u8],
+    scratch: &mut [u8],
+    out: &mut [u8],
+) -> StackAnswer
+    ensures lines { λ r. ⌜ LinesOut (drawLines (length (now (scratch .entry))) (now (font .entry)) (now (control .entry)) (now (upper .entry)) (now (lower .entry))) (length (now (out .entry))) r (now (out .exit)) ⌝ }
+    ensures scratch { λ r. ⌜ now (scratch .exit) ≡ zeros (length (now (scratch .entry))) ⌝ }
+{
+    twolines::draw_stacked(font, control, upper, lower, scratch, out)
 }

@@ -1,5 +1,5 @@
 //! The calls of the static library, in safe functions. They ask nothing of their input, so nothing is tested here.
-use crate::plain::join::Request;
+use crate::plain::{join, stack};
 
 extern "C" {
     fn wattleslate_check_font(font: *const u8, font_len: usize) -> u64;
@@ -27,6 +27,34 @@ extern "C" {
         hardblank: u8,
         layout: usize,
         direction: usize,
+        out: *mut u8,
+        out_len: usize,
+    ) -> u64;
+    fn wattleslate_stack(
+        upper: *const u8,
+        upper_len: usize,
+        upper_width: usize,
+        upper_height: usize,
+        lower: *const u8,
+        lower_len: usize,
+        lower_width: usize,
+        lower_height: usize,
+        hardblank: u8,
+        layout: usize,
+        out: *mut u8,
+        out_len: usize,
+    ) -> u64;
+    fn wattleslate_draw_stacked(
+        font: *const u8,
+        font_len: usize,
+        control: *const u8,
+        control_len: usize,
+        upper: *const u8,
+        upper_len: usize,
+        lower: *const u8,
+        lower_len: usize,
+        scratch: *mut u8,
+        scratch_len: usize,
         out: *mut u8,
         out_len: usize,
     ) -> u64;
@@ -79,7 +107,7 @@ pub fn draw(font: &[u8], control: &[u8], text: &[u8], scratch: &mut [u8], out: &
     }
 }
 
-pub fn join(r: &Request, out: &mut [u8]) -> u64 {
+pub fn join(r: &join::Request, out: &mut [u8]) -> u64 {
     // SAFETY: as above.
     unsafe {
         wattleslate_join(
@@ -93,6 +121,46 @@ pub fn join(r: &Request, out: &mut [u8]) -> u64 {
             r.hardblank,
             r.layout,
             r.direction,
+            out.as_mut_ptr(),
+            out.len(),
+        )
+    }
+}
+
+pub fn stack(r: &stack::Request, out: &mut [u8]) -> u64 {
+    // SAFETY: as above.
+    unsafe {
+        wattleslate_stack(
+            r.upper.as_ptr(),
+            r.upper.len(),
+            r.upper_width,
+            r.upper_height,
+            r.lower.as_ptr(),
+            r.lower.len(),
+            r.lower_width,
+            r.lower_height,
+            r.hardblank,
+            r.layout,
+            out.as_mut_ptr(),
+            out.len(),
+        )
+    }
+}
+
+pub fn draw_stacked(font: &[u8], control: &[u8], upper: &[u8], lower: &[u8], scratch: &mut [u8], out: &mut [u8]) -> u64 {
+    // SAFETY: as above.
+    unsafe {
+        wattleslate_draw_stacked(
+            font.as_ptr(),
+            font.len(),
+            control.as_ptr(),
+            control.len(),
+            upper.as_ptr(),
+            upper.len(),
+            lower.as_ptr(),
+            lower.len(),
+            scratch.as_mut_ptr(),
+            scratch.len(),
             out.as_mut_ptr(),
             out.len(),
         )

@@ -3,7 +3,7 @@ use crate::calls::{self, Apart};
 use crate::plain::{self, join::Request};
 
 /// Document 01's font of the program banner, with its line ends.
-fn banner_font(header: &str, end: &str) -> Vec<u8> {
+pub fn banner_font(header: &str, end: &str) -> Vec<u8> {
     let mut font = format!("{header}{end}").into_bytes();
     for code in 32..=126u8 {
         let row: &[u8] = match code {
@@ -127,13 +127,13 @@ const DRAWINGS: &[(&str, &str, &str, &str)] = &[
 ];
 
 /// Compares what both implementations answer with what must be; counts.
-struct Check {
+pub struct Check {
     made: u64,
     wrong: u64,
 }
 
 impl Check {
-    fn same(&mut self, what: &str, proved: u64, plain: u64, must: Apart) {
+    pub fn same(&mut self, what: &str, proved: u64, plain: u64, must: Apart) {
         self.made += 1;
         let (a, b) = (calls::apart(proved), calls::apart(plain));
         if a != must || b != must {
@@ -164,7 +164,7 @@ impl Check {
         self.bytes(&format!("{request:?}"), &a, &b, result, 8);
     }
 
-    fn bytes(&mut self, what: &str, a: &[u8], b: &[u8], result: &str, room: usize) {
+    pub fn bytes(&mut self, what: &str, a: &[u8], b: &[u8], result: &str, room: usize) {
         let mut must = result.as_bytes().to_vec();
         must.resize(room, 0);
         if a != must || b != must {
@@ -252,5 +252,6 @@ pub fn run() -> (u64, u64) {
     for (header, control, text, result) in DRAWINGS {
         check.draw(&banner_font(header, "\n"), control, text, result);
     }
+    check.stacks();
     (check.made, check.wrong)
 }

@@ -1,9 +1,12 @@
 //! Random input, long and short, valid and damaged.
 use crate::plain::join::Request;
 use crate::random::Random;
+use crate::stacks::vertical_layout;
 
 const MARKS: &[u8] = b"|/\\[]{}()<>_$#@ab";
-const HARDBLANKS: &[u8] = b"$$$$$$|_/Y#\t\x7f\xe4";
+/// What some fonts are drawn with, so that their lines close up by every vertical rule.
+const FEW: &[&[u8]] = &[b"|", b"|", b"-_", b"-_", b"-_|", b"a"];
+const HARDBLANKS: &[u8] = b"$$$$$$|_/Y#=\t\x7f\xe4";
 /// The codes that a backslash and a letter stand for.
 const ESCAPED: &[u8] = &[7, 8, 27, 12, 10, 13, 9, 11, 92, 32];
 const ENDS: &[&[u8]] = &[b"\n", b"\n", b"\r\n", b"\r"];
@@ -18,10 +21,10 @@ fn hardblank(r: &mut Random) -> u8 {
 }
 
 /// Sub-characters of a row: blanks at both edges, then mostly those that the rules speak of.
-fn row(r: &mut Random, width: usize, hardblank: u8, any: bool) -> Vec<u8> {
+fn row(r: &mut Random, width: usize, marks: &[u8], hardblank: u8, any: bool) -> Vec<u8> {
     let (left, right) = (r.below(width + 1) * r.below(2), r.below(width + 1) * r.below(2));
-    let few = r.pick(&[2, 4, 17]);
-    let from = r.below(MARKS.len() - few + 1);
+    let few = r.pick(&[2, 4, 17]).min(marks.len());
+    let from = r.below(marks.len() - few + 1);
     let mut bytes = Vec::new();
     for k in 0..width {
         bytes.push(match r.below(12) {
@@ -29,7 +32,7 @@ fn row(r: &mut Random, width: usize, hardblank: u8, any: bool) -> Vec<u8> {
             0 => b' ',
             1 => hardblank,
             2 if any => r.byte(),
-            _ => r.pick(&MARKS[from..from + few]),
+            _ => r.pick(&marks[from..from + few]),
         });
     }
     bytes
@@ -65,7 +68,7 @@ impl Join {
 
 fn rows(r: &mut Random, height: usize, width: usize, hardblank: u8) -> Vec<u8> {
     let any = r.one_in(4);
-    (0..height).flat_map(|_| row(r, width, hardblank, any)).collect()
+    (0..height).flat_map(|_| row(r, width, MARKS, hardblank, any)).collect()
 }
 
 pub fn layout(r: &mut Random) -> usize {
@@ -171,9 +174,10 @@ fn optional(r: &mut Random, most: usize) -> i64 {
     }
 }
 
-/// The numbers of a font.
+/// The numbers of a font, and what it is drawn with.
 struct Sizes {
     hardblank: u8,
+    marks: &'static [u8],
     height: usize,
     max_length: usize,
     comments: usize,
@@ -187,7 +191,7 @@ fn header(r: &mut Random, s: &Sizes) -> Vec<u8> {
     let old = if s.wild && r.one_in(16) { r.pick(&[-2, 64]) } else { old };
     let mut numbers = vec![s.height as i64, baseline as i64, s.max_length as i64, old, s.comments as i64];
     let more = r.below(4);
-    let full = if s.wild { optional(r, 32767) } else { layout(r).min(32767) as i64 };
+    let full = if s.wild { optional(r, 32767) } else { (layout(r).min(32767) | vertical_layout(r)) as i64 };
     numbers.extend(&[r.below(2) as i64, full, 5][..more]);
     if s.wild && more > 0 {
         numbers[5] = optional(r, 1);
@@ -208,7 +212,7 @@ fn header(r: &mut Random, s: &Sizes) -> Vec<u8> {
 fn character(r: &mut Random, s: &Sizes, end: &[u8], out: &mut Vec<u8>) {
     let width = if s.max_length > 100 && r.one_in(3) { s.max_length - 1 } else { r.below(s.max_length.min(7)) };
     for _ in 0..s.height {
-        let mut bytes = row(r, width, s.hardblank, false);
+        let mut bytes = row(r, width, s.marks, s.hardblank, false);
         let last = bytes.last().copied();
         let mark = if last == Some(b'@') { b'!' } else { b'@' };
         let most = s.max_length - width;
@@ -240,16 +244,29 @@ fn tag(r: &mut Random, wild: bool) -> Vec<u8> {
     text.into_bytes()
 }
 
-/// A font: mostly small, sometimes high, wide or with many characters; `wild` ones are mostly refused.
-pub fn font(r: &mut Random) -> Vec<u8> {
-    let wild = r.one_in(3);
-    let s = Sizes {
-        hardblank: if wild { hardblank(r) } else { r.pick(HARDBLANKS) },
+/// A font's numbers, and what it is drawn with.
+fn sizes(r: &mut Random, wild: bool) -> Sizes {
+    let marks = if r.one_in(4) { r.pick(FEW) } else { MARKS };
+    let hardblank = match wild {
+        true => hardblank(r),
+        // The joint of the two is the hardblank's byte then.
+        false if marks == b"-_" => b'=',
+        false => r.pick(HARDBLANKS),
+    };
+    Sizes {
+        hardblank,
+        marks,
         height: if r.one_in(30) { r.between(1, 32) } else { r.between(1, 4) },
         max_length: if r.one_in(30) { r.between(180, 200) } else { r.between(1, 9) },
         comments: r.below(4) * r.below(2),
         wild,
-    };
+    }
+}
+
+/// A font: mostly small, sometimes high, wide or with many characters; `wild` ones are mostly refused.
+pub fn font(r: &mut Random) -> Vec<u8> {
+    let wild = r.one_in(3);
+    let s = sizes(r, wild);
     let end = r.pick(ENDS);
     let mut font = header(r, &s);
     font.extend(end);
@@ -375,4 +392,21 @@ pub fn text(r: &mut Random) -> Vec<u8> {
         _ => r.between(32, 126) as u8,
     };
     (0..length).map(|_| one(r)).collect()
+}
+
+/// Letters and signs, so many.
+fn letters(r: &mut Random, length: usize) -> Vec<u8> {
+    (0..length).map(|_| r.between(32, 126) as u8).collect()
+}
+
+/// Two texts: half of the time of a few letters, so that their lines close up in many ways, and sometimes both about as long as a text may be.
+pub fn two_texts(r: &mut Random) -> [Vec<u8>; 2] {
+    let (least, most) = match r.below(200) {
+        0 => (1022, 1026),
+        1 | 2 => (900, 1024),
+        3..=100 => (0, 3),
+        _ => return [text(r), text(r)],
+    };
+    let lengths = [r.between(least, most), r.between(least, most)];
+    lengths.map(|length| letters(r, length))
 }

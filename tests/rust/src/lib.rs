@@ -2,5 +2,8 @@
 pub mod calls;
 pub mod cases;
 pub mod inputs;
+pub mod met;
 pub mod plain;
 pub mod random;
+pub mod stack_cases;
+pub mod stacks;

@@ -1,32 +1,50 @@
 //! Compares the proved implementation with the plain one on random input: answers, and every byte of every lent area.
-//! compare [SEED [TIMES]]: exits 1 at the first difference, after printing the input.
+//! compare [SEED [TIMES]]: exits 1 at the first difference, after printing the input, or at the end where a refusal or a case was never met.
 use std::process::exit;
 use std::time::Instant;
+use wattleslate_tests::met::{self, Drawing, Met};
 use wattleslate_tests::random::Random;
-use wattleslate_tests::{calls, cases, inputs, plain};
+use wattleslate_tests::{calls, cases, inputs, plain, stacks};
 
 /// How often a call was made and how often each refusal came; 0 is success.
 struct Count {
     name: &'static str,
-    answers: [u64; 18],
+    /// The refusals that it can give.
+    refusals: &'static [u64],
+    answers: [u64; 19],
 }
 
+const CALLS: [(&str, &[u64]); 6] = [
+    ("join", &[9, 16, 17]),
+    ("check_font", &[1, 2, 3, 4, 5, 6, 7, 8]),
+    ("check_control", &[10, 11, 12, 13, 14]),
+    ("draw", &[1, 2, 3, 4, 5, 6, 7, 8, 9, 10, 11, 12, 13, 14, 15, 16]),
+    ("stack", &[9, 17, 18]),
+    ("draw_stacked", &[1, 2, 3, 4, 5, 6, 7, 8, 9, 10, 11, 12, 13, 14, 15, 16]),
+];
+
 impl Count {
-    fn new(name: &'static str) -> Count {
-        Count { name, answers: [0; 18] }
+    fn new((name, refusals): (&'static str, &'static [u64])) -> Count {
+        Count { name, refusals, answers: [0; 19] }
     }
 
     fn add(&mut self, answer: u64) {
         self.answers[calls::number(answer) as usize] += 1;
     }
 
-    fn print(&self) {
+    /// Prints the counts; how many of the refusals that it can give never came.
+    fn print(&self) -> usize {
         let total: u64 = self.answers.iter().sum();
         print!("{}: {total}, of these {} not refused", self.name, self.answers[0]);
         for (number, times) in self.answers.iter().enumerate().skip(1).filter(|(_, t)| **t > 0) {
             print!(", {number}: {times}");
         }
         println!();
+        let never: Vec<&u64> = self.refusals.iter().filter(|n| self.answers[**n as usize] == 0).collect();
+        if !never.is_empty() {
+            println!("  NEVER MET: {never:?}");
+        }
+        never.len()
     }
 }
 
@@ -60,6 +78,18 @@ fn compare_join(r: &mut Random, count: &mut Count) {
     count.add(x);
 }
 
+fn compare_stack(r: &mut Random, count: &mut Count, met: &mut Met) {
+    let s = stacks::stack(r);
+    let (mut a, mut b) = (s.out.clone(), s.out.clone());
+    let x = calls::stack(&s.request(), &mut a);
+    let y = plain::stack::stack(&s.request(), &mut b);
+    if x != y || a != b {
+        differ("stack", &[("request", format!("{:?}", s.request())), ("room", s.out.len().to_string())], (x, &[&a]), (y, &[&b]));
+    }
+    count.add(x);
+    met::stack(&s.request(), x, s.out.len(), met);
+}
+
 fn compare_font(font: &[u8], count: &mut Count) {
     let (x, y) = (calls::check_font(font), plain::check_font(font));
     if x != y {
@@ -76,11 +106,12 @@ fn compare_control(file: &[u8], count: &mut Count) {
     count.add(x);
 }
 
-/// The sizes of the two areas: nearly always enough, and sometimes one byte short.
-fn rooms(r: &mut Random, font: &[u8], control: &[u8], text: &[u8]) -> (usize, usize) {
-    let scratch = if r.one_in(20) { r.between(31998, 32001) } else { 32000 };
-    let mut out = vec![0; 33000];
-    let answer = plain::draw::draw(font, control, text, &mut vec![0; 32000], &mut out);
+/// The sizes of the two areas: nearly always enough, and sometimes one byte short. `draw` draws into areas that are large enough, and `least` is what
+/// the scratch must have.
+fn rooms(r: &mut Random, least: usize, draw: impl Fn(&mut [u8], &mut [u8]) -> u64) -> (usize, usize) {
+    let scratch = if r.one_in(20) { r.between(least - 2, least + 1) } else { least };
+    let mut out = vec![0; 66000];
+    let answer = draw(&mut vec![0; least], &mut out);
     let needed = out.iter().rposition(|b| *b != 0).map_or(0, |k| k + 1);
     let out = match r.below(24) {
         _ if calls::number(answer) != 0 => r.below(100),
@@ -112,7 +143,7 @@ fn cut(r: &mut Random, font: &[u8], control: &[u8], text: &mut Vec<u8>) {
 }
 
 fn compare_draw(r: &mut Random, font: &[u8], control: &[u8], text: &[u8], count: &mut Count) {
-    let (scratch_room, out_room) = rooms(r, font, control, text);
+    let (scratch_room, out_room) = rooms(r, 32000, |s, o| plain::draw::draw(font, control, text, s, o));
     let (scratch, out) = (r.bytes(scratch_room), r.bytes(out_room));
     let (mut s, mut a, mut t, mut b) = (scratch.clone(), out.clone(), scratch, out);
     let x = calls::draw(font, control, text, &mut s, &mut a);
@@ -130,6 +161,55 @@ fn compare_draw(r: &mut Random, font: &[u8], control: &[u8], text: &[u8], count:
     count.add(x);
 }
 
+fn compare_draw_stacked(r: &mut Random, font: &[u8], control: &[u8], [upper, lower]: [&[u8]; 2], count: &mut Count, met: &mut Met) {
+    let (scratch_room, out_room) = rooms(r, 64000, |s, o| plain::draw::draw_stacked(font, control, upper, lower, s, o));
+    let (scratch, out) = (r.bytes(scratch_room), r.bytes(out_room));
+    let (mut s, mut a, mut t, mut b) = (scratch.clone(), out.clone(), scratch, out);
+    let x = calls::draw_stacked(font, control, upper, lower, &mut s, &mut a);
+    let y = plain::draw::draw_stacked(font, control, upper, lower, &mut t, &mut b);
+    if x != y || a != b || s != t {
+        let input = [
+            ("font", shown(font)),
+            ("control", shown(control)),
+            ("upper", shown(upper)),
+            ("lower", shown(lower)),
+            ("scratch room", scratch_room.to_string()),
+            ("out room", out_room.to_string()),
+        ];
+        differ("draw_stacked", &input, (x, &[&a, &s]), (y, &[&b, &t]));
+    }
+    count.add(x);
+    met::draw_stacked(&Drawing { font, control, texts: [upper, lower], scratch: scratch_room, out: out_room }, x, met);
+}
+
+/// What one round compares: ten joins and stacks, a font, three control files, a line and two lines drawn with the font.
+fn round(r: &mut Random, mut font: Vec<u8>, damaged: bool, counts: &mut [Count; 6], cases: &mut [Met; 2]) {
+    for _ in 0..10 {
+        compare_join(r, &mut counts[0]);
+        compare_stack(r, &mut counts[4], &mut cases[0]);
+    }
+    if damaged {
+        inputs::damage(r, &mut font);
+    }
+    compare_font(&font, &mut counts[1]);
+    for _ in 0..3 {
+        compare_control(&inputs::control(r), &mut counts[2]);
+    }
+    let (control, mut text) = (inputs::control(r), inputs::text(r));
+    let control = if r.one_in(2) { b"" } else { &control[..] };
+    if text.len() > 100 && r.one_in(2) {
+        cut(r, &font, control, &mut text);
+    }
+    compare_draw(r, &font, control, &text, &mut counts[3]);
+    let mut texts = inputs::two_texts(r);
+    for text in texts.iter_mut().filter(|text| text.len() > 100) {
+        if !r.one_in(4) {
+            cut(r, &font, control, text);
+        }
+    }
+    compare_draw_stacked(r, &font, control, [&texts[0], &texts[1]], &mut counts[5], &mut cases[1]);
+}
+
 fn main() {
     let mut given = std::env::args().skip(1).map(|a| a.parse::<u64>().expect("a number"));
     let seed = given.next().unwrap_or(2026_11_15);
@@ -142,26 +222,13 @@ fn main() {
     let start = Instant::now();
     let mut r = Random::new(seed);
     let console = std::fs::read(concat!(env!("CARGO_MANIFEST_DIR"), "/../../fonts/console.flf")).expect("fonts/console.flf");
-    let mut counts = ["join", "check_font", "check_control", "draw"].map(Count::new);
+    let mut counts = CALLS.map(Count::new);
+    let mut cases = [Met::new("stacks met", met::STACKS), Met::new("drawings of two lines met", met::DRAWINGS)];
     for k in 0..times {
-        for _ in 0..10 {
-            compare_join(&mut r, &mut counts[0]);
-        }
-        let mut font = if k % 8 == 0 { console.clone() } else { inputs::font(&mut r) };
-        if k % 32 == 0 {
-            inputs::damage(&mut r, &mut font);
-        }
-        compare_font(&font, &mut counts[1]);
-        for _ in 0..3 {
-            compare_control(&inputs::control(&mut r), &mut counts[2]);
-        }
-        let (control, mut text) = (inputs::control(&mut r), inputs::text(&mut r));
-        let control = if r.one_in(2) { b"" } else { &control[..] };
-        if text.len() > 100 && r.one_in(2) {
-            cut(&mut r, &font, control, &mut text);
-        }
-        compare_draw(&mut r, &font, control, &text, &mut counts[3]);
+        let font = if k % 8 == 0 { console.clone() } else { inputs::font(&mut r) };
+        round(&mut r, font, k % 32 == 0, &mut counts, &mut cases);
     }
-    counts.iter().for_each(Count::print);
-    println!("no difference, {:.1} s", start.elapsed().as_secs_f64());
+    let never = counts.iter().map(Count::print).sum::<usize>() + cases.iter().map(Met::print).sum::<usize>();
+    println!("no difference, {:.1} s; never met: {never}", start.elapsed().as_secs_f64());
+    exit((never > 0) as i32)
 }

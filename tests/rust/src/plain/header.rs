@@ -2,6 +2,7 @@
 use super::lines::{is_gap, words};
 use super::numbers::header_number;
 use super::pairs::{is_hardblank, Layout, Smushing};
+use super::stack::{vertical, Vertical};
 use super::{refuse, Refusal};
 
 pub struct Header {
@@ -11,6 +12,14 @@ pub struct Header {
     pub comment_lines: usize,
     pub right_to_left: bool,
     pub layout: Layout,
+    /// "Vertical values are kept."
+    pub full_layout: Option<usize>,
+}
+
+impl Header {
+    pub fn vertical(&self) -> Vertical {
+        vertical(self.full_layout)
+    }
 }
 
 /// "An absent Full_Layout gives one of the ready layouts."
@@ -66,12 +75,14 @@ pub fn read(line: &[u8]) -> Result<Header, Refusal> {
     if n.len() < 5 || !in_range(&n) {
         return refuse(4, 0);
     }
+    let full = n.get(6).map(|full| *full as usize);
     Ok(Header {
         hardblank,
         height: n[0] as usize,
         max_length: n[2] as usize,
         comment_lines: n[4] as usize,
         right_to_left: n.get(5) == Some(&1),
-        layout: n.get(6).map_or(old_layout(n[3]), |full| full_layout(*full as usize)),
+        layout: full.map_or(old_layout(n[3]), full_layout),
+        full_layout: full,
     })
 }

@@ -52,7 +52,7 @@ pub fn put(mode: Mode, line: &Block, character: &Block) -> (usize, Block) {
 }
 
 /// A block as it lies in an area, row after row.
-fn block(bytes: &[u8], width: usize, height: usize) -> Block {
+pub fn block(bytes: &[u8], width: usize, height: usize) -> Block {
     let rows = (0..height).map(|r| bytes[r * width..(r + 1) * width].to_vec()).collect();
     Block { width, rows }
 }

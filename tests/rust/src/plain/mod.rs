@@ -1,4 +1,4 @@
-//! A plain implementation of document 01, written from that paper and sharing no code with the crates: short, and not fast.
+//! A plain implementation of document 01 and of the requests of document 02, written from those papers and sharing no code with the crates: short, and not fast.
 pub mod control;
 pub mod draw;
 pub mod font;
@@ -7,6 +7,7 @@ pub mod join;
 pub mod lines;
 pub mod numbers;
 pub mod pairs;
+pub mod stack;
 
 /// "A refusal answers its number and place."
 #[derive(Clone, Copy, PartialEq, Eq, Debug)]

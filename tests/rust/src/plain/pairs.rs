@@ -33,7 +33,7 @@ fn class(byte: u8) -> usize {
 }
 
 /// What a rule makes of two visible sub-characters as they stand on the screen.
-fn by_rule(rule: u8, left: u8, right: u8) -> Option<u8> {
+pub fn by_rule(rule: u8, left: u8, right: u8) -> Option<u8> {
     let (a, b) = (class(left), class(right));
     let opposite = [b"[]", b"{}", b"()"].iter().any(|p| **p == [left, right] || **p == [right, left]);
     match rule {

@@ -91,7 +91,7 @@ returns c =
 mul-if2 : tie.Need-mul-if2
 mul-if2 c =
     let p = c .before in
-    omega (arith, small (start p .args .h) (width p) (start p .pre .0 .high) (omega (arith, c .if1 .left)))
+    omega (arith, small (start p .args .h) (width p) (omega (arith, start p .pre .0 .high)) (omega (arith, c .if1 .left)))
 
 refuse-requires-2 : tie.Need-refuse-requires-2
 refuse-requires-2 c κs = search needs
@@ -117,7 +117,7 @@ write-rows-requires c κs =
 mul-zero-from : tie.Need-mul-zero-from
 mul-zero-from c =
     let p = c .before .before .before .before .before .before .before in
-    omega (arith, small (start p .args .h) (width p) (start p .pre .0 .high) (omega (arith, c .before .before .before .before .before .before .if1 .left)))
+    omega (arith, small (start p .args .h) (width p) (omega (arith, start p .pre .0 .high)) (omega (arith, c .before .before .before .before .before .before .if1 .left)))
 
 zero-from-requires : tie.Need-zero-from-requires
 zero-from-requires c κs = omega (arith, c .before .before .before .before .before .if2 .left, c .before .before .before .write-rows .kept .0)

@@ -1,0 +1,8 @@
+-- The laws of two lines.
+pub mod HalfLaws
+pub mod OutputLaws
+pub mod LinesLaws
+pub mod Answers
+pub mod TableLaws
+pub mod Bytes
+pub mod EmptyText

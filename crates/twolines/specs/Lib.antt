@@ -1,0 +1,2 @@
+-- The meaning of two lines drawn one above the other.
+pub mod TwoLines

@@ -1,0 +1,77 @@
+-- Two lines of text drawn by one font and stacked: document 02, Q-1. "Site name above, device name below, closed up as the font says."
+-- Assumes nothing.
+use mathlib.Core.Path.{_≡_}
+use Prim.Native.Nat.{ℕ, _+_, _*_}
+use mathlib.Core.Bool.{cond, _||_}
+use mathlib.Core.List.{List, []}
+use lib.Dec.{ltb}
+use Rattle.ground.specs.Limits.{maxLineWidth, minStackedScratch}
+use Rattle.ground.specs.Refusals.{refusal, areaTooSmall, lineTooWide}
+use Rattle.ground.specs.declared.refusals.Refusal.{Refusal}
+use Rattle.subchars.specs.declared.VerticalLayout.{VerticalLayout}
+use Rattle.subchars.specs.declared.VerticalLayout.the-variants.{FullHeight}
+use Rattle.subchars.specs.Layouts.{fullVertical}
+use Rattle.subchars.specs.Pair.{blank}
+use Rattle.header.specs.declared.Given.{Given}
+use Rattle.header.specs.declared.Given.the-variants.{Absent, Of}
+use Rattle.font.specs.Font as font
+use Rattle.figure.specs.Line.{shown}
+use Rattle.stack.specs.declared.StackAnswer.{StackAnswer}
+use Rattle.stack.specs.declared.StackAnswer.the-variants.{Refused}
+use Rattle.stack.specs.Stack.{Stack, stacked}
+use Rattle.stack.specs.StackCall.{StackTold, stackTells, fitTold, areaAfter}
+use Rattle.drawing.specs.Drawing.{Lined, lined, unlined, linedOf}
+
+-- "Vertical full height (also without Full_Layout)."
+abbrev pub verticalOf : Given → VerticalLayout
+verticalOf Absent = FullHeight
+verticalOf (Of full) = fullVertical full
+
+-- The vertical layout of a font that is read.
+abbrev pub verticalBy : font.FontReading → VerticalLayout
+verticalBy (font.says h es) = verticalOf (h .«full_layout»)
+verticalBy (font.refuses r) = FullHeight
+
+-- The two lines closed up, or a refusal.
+pub data TwoLines : Type 0 where
+  twoLines : Stack → TwoLines
+  noLines : Refusal → TwoLines
+
+-- "Both texts drawn as lines .., then stacked": the font's, the control file's and 15 of either text; then 16 of either line.
+abbrev pub closedUp : VerticalLayout → Lined → Lined → TwoLines
+closedUp vertical (unlined r) lower = noLines r
+closedUp vertical (lined y h a) (unlined r) = noLines r
+closedUp vertical (lined y h a) (lined z k b) =
+    cond (ltb maxLineWidth (a .width) || ltb maxLineWidth (b .width)) (noLines (refusal lineTooWide 0)) (twoLines (stacked vertical (y .hardblank .0) h a k b))
+
+unfoldable pub linesOf : List ℕ → List ℕ → List ℕ → List ℕ → TwoLines
+linesOf s control upper lower = closedUp (verticalBy (font.reading s)) (linedOf s control upper) (linedOf s control lower)
+
+-- "9 (scratch under 64,000 ..: one line's room for each text)", before the refusals above.
+unfoldable pub drawLines : ℕ → List ℕ → List ℕ → List ℕ → List ℕ → TwoLines
+drawLines scratch s control upper lower = cond (ltb scratch minStackedScratch) (noLines (refusal areaTooSmall 0)) (linesOf s control upper lower)
+
+-- "Output is each row, then LF": no hardblank is left that would come out as a blank.
+abbrev pub linesSize : Stack → ℕ
+linesSize s = s .height * (s .block .width + 1)
+
+abbrev pub linesShown : Stack → List ℕ
+linesShown s = shown blank (s .height) (s .block)
+
+-- "Then 9 (out)." What the two lines come to in an output of the given room, and the bytes at its start.
+unfoldable pub linesTold : TwoLines → ℕ → StackTold
+linesTold (noLines r) room = stackTells (Refused r)
+linesTold (twoLines s) room = fitTold s (linesSize s) room
+
+unfoldable pub linesBytes : TwoLines → List ℕ
+linesBytes (noLines r) = []
+linesBytes (twoLines s) = linesShown s
+
+-- "A refusal fills every lent writable area with zeros. A success fills all room behind its answer with zeros."
+unfoldable pub linesOutput : TwoLines → ℕ → List ℕ
+linesOutput t room = areaAfter (linesTold t room) (linesBytes t) room
+
+-- The answer and the output.
+pub record LinesOut (t : TwoLines) (room : ℕ) (r : StackAnswer) (out : List ℕ) : Type 0 where
+  pub answer : stackTells r ≡ linesTold t room
+  pub output : out ≡ linesOutput t room

@@ -1,0 +1,346 @@
+// Two lines of text drawn by one font, one above the other.
+use drawing::Files;
+use ground::limits;
+use ground::refusals;
+use ground::refusals::Refusal;
+use header::Given;
+use header::Header;
+use index::latest;
+use stack::Placed;
+pub use stack::StackAnswer;
+use stack::stacking;
+use subchars::Direction;
+use subchars::Mode;
+use subchars::VerticalLayout;
+ghost use mathlib.Core.Path.{_≡_};
+ghost use mathlib.Core.List.{List};
+ghost use Prim.Native.Nat.{ℕ, _≤_};
+ghost use lib.ListN.{length, take, drop};
+ghost use Rattle.ground.specs.Area.{zeros};
+ghost use Rattle.ground.specs.Limits.{maxLineWidth, maxHeight, minScratch, minStackedScratch};
+ghost use Rattle.join.specs.Join.{Block};
+ghost use Rattle.figure.specs.Scratch.{lineStart};
+ghost use Rattle.flc.specs.Passing.{ControlHeld};
+ghost use Rattle.source.specs.Source.{Source};
+ghost use Rattle.source.specs.Held.{FontHeld, Gives};
+ghost use Rattle.drawing.specs.Drawing.{textCodes, lineOf, Lined};
+ghost use Rattle.drawing.specs.Held.{FilesHeld};
+ghost use Rattle.drawing.specs.Steps.{Reached};
+ghost use Rattle.twolines.specs.TwoLines.{verticalOf, TwoLines, closedUp, linesOf, drawLines, LinesOut};
+
+// How wide two lines are.
+pub struct Widths {
+    pub upper: usize,
+    pub lower: usize,
+}
+
+// The vertical layout of a header: full height where Full_Layout is absent.
+fn vertical_of(given: Given) -> VerticalLayout
+    ensures { λ r. ⌜ r ≡ verticalOf given ⌝ }
+{
+    match given {
+        Given::Absent => VerticalLayout::FULL_HEIGHT,
+        Given::Of(full) => VerticalLayout::from_full(full),
+    }
+}
+
+// A refusal, with zeros all through the output.
+fn refuse(number: usize, place: usize, out: &mut [u8]) -> StackAnswer
+    ensures { λ r. ⌜ LinesOut (TwoLines.noLines (record { number = number; place = place })) (length (now (out .entry))) r (now (out .exit)) ⌝ }
+{
+    ground::zero_from(out, 0);
+    StackAnswer::Refused(Refusal { number, place })
+}
+
+// Where a drawn line w wide lies in its area.
+fn line_place(direction: Direction, w: usize, height: usize) -> Placed
+    requires { ⌜ w ≤ maxLineWidth ⌝ }
+    ensures { λ p. ⌜ p ≡ record { base = lineStart direction w; stride = maxLineWidth; width = w; height = height } ⌝ }
+{
+    Placed {
+        base: figure::line_start(direction, w),
+        stride: limits::MAX_LINE_WIDTH,
+        width: w,
+        height,
+    }
+}
+
+// Puts out the two lines that the halves of the scratch hold: 16 for either, then 9.
+fn put_lines(
+    out: &mut [u8],
+    scratch: &[u8],
+    widths: Widths,
+    mode: Mode,
+    vertical: VerticalLayout,
+    height: usize,
+) -> StackAnswer
+    requires { ⌜ (1 ≤ height) × (height ≤ maxHeight) × (minStackedScratch ≤ length (now scratch)) ⌝ }
+    ensures { λ r. ⌜ ((a b : Block) → Reached mode height maxLineWidth (widths .upper) (take minScratch (now (scratch .entry))) a → Reached mode height maxLineWidth (widths .lower) (drop minScratch (now (scratch .entry))) b → LinesOut (closedUp vertical (Lined.lined mode height a) (Lined.lined mode height b)) (length (now (out .entry))) r (now (out .exit))) ⌝ }
+{
+    if limits::MAX_LINE_WIDTH < widths.upper {
+        return refuse(refusals::LINE_TOO_WIDE, 0, out);
+    }
+    if limits::MAX_LINE_WIDTH < widths.lower {
+        return refuse(refusals::LINE_TOO_WIDE, 0, out);
+    }
+    let direction = mode.direction;
+    let hardblank = mode.hardblank;
+    let u = line_place(direction, widths.upper, height);
+    let l = line_place(direction, widths.lower, height);
+    let half = limits::MIN_SCRATCH;
+    let upper = &scratch[..half];
+    let lower = &scratch[half..];
+    stacking::put_stack(out, 1, vertical, hardblank, upper, u, lower, l)
+}
+
+// Draws two texts, each into its half of the scratch.
+fn join_both(
+    scratch: &mut [u8],
+    upper: &[u8],
+    lower: &[u8],
+    mode: Mode,
+    height: usize,
+    font: &[u8],
+    count: usize,
+    codes: &[i32],
+    starts: &[usize],
+    widths: &[usize],
+    places: &[usize],
+    commands: usize,
+    stages: &[usize],
+    firsts: &[i32],
+    lasts: &[i32],
+    news: &[i32],
+) -> Widths
+    requires { ⌜ ((source : Source) × Gives source (now font) height count (now codes) (now starts) (now widths) (now places)) ⌝ }
+    requires { ⌜ ((control : List ℕ) × ControlHeld control commands (now stages) (now firsts) (now lasts) (now news)) ⌝ }
+    requires { ⌜ minStackedScratch ≤ length (now scratch) ⌝ }
+    ensures { λ w. ⌜ ((source : Source) (given : Gives source (now (font .entry)) height count (now (codes .entry)) (now (starts .entry)) (now (widths .entry)) (now (places .entry))) (control : List ℕ) (held : ControlHeld control commands (now (stages .entry)) (now (firsts .entry)) (now (lasts .entry)) (now (news .entry))) → Reached mode height maxLineWidth (w .upper) (take minScratch (now (scratch .exit))) (lineOf mode height source (textCodes (held .commands) (held .count) (now (upper .entry)))) × Reached mode height maxLineWidth (w .lower) (drop minScratch (now (scratch .exit))) (lineOf mode height source (textCodes (held .commands) (held .count) (now (lower .entry))))) ⌝ }
+{
+    let half = limits::MIN_SCRATCH;
+    let most = limits::MAX_LINE_WIDTH;
+    let n = drawing::join_text(
+        &mut scratch[..half],
+        upper,
+        most,
+        mode,
+        height,
+        font,
+        count,
+        codes,
+        starts,
+        widths,
+        places,
+        commands,
+        stages,
+        firsts,
+        lasts,
+        news,
+    );
+    let m = drawing::join_text(
+        &mut scratch[half..],
+        lower,
+        most,
+        mode,
+        height,
+        font,
+        count,
+        codes,
+        starts,
+        widths,
+        places,
+        commands,
+        stages,
+        firsts,
+        lasts,
+        news,
+    );
+    Widths { upper: n, lower: m }
+}
+
+// Draws two texts by a font and a control file that were read: 15 and 16 of either, then 9.
+fn draw_texts(
+    out: &mut [u8],
+    scratch: &mut [u8],
+    upper: &[u8],
+    lower: &[u8],
+    font: &[u8],
+    header: Header,
+    count: usize,
+    codes: &[i32],
+    starts: &[usize],
+    widths: &[usize],
+    places: &[usize],
+    commands: usize,
+    stages: &[usize],
+    firsts: &[i32],
+    lasts: &[i32],
+    news: &[i32],
+) -> StackAnswer
+    requires { ⌜ FontHeld (now font) header count (now codes) (now starts) (now widths) (now places) ⌝ }
+    requires { ⌜ ((control : List ℕ) × ControlHeld control commands (now stages) (now firsts) (now lasts) (now news)) ⌝ }
+    requires { ⌜ minStackedScratch ≤ length (now scratch) ⌝ }
+    ensures { λ r. ⌜ ((control : List ℕ) → ControlHeld control commands (now (stages .entry)) (now (firsts .entry)) (now (lasts .entry)) (now (news .entry)) → LinesOut (linesOf (now (font .entry)) control (now (upper .entry)) (now (lower .entry))) (length (now (out .entry))) r (now (out .exit))) ⌝ }
+{
+    if limits::MAX_TEXT < upper.len() {
+        return refuse(refusals::TEXT_TOO_LONG, 0, out);
+    }
+    if limits::MAX_TEXT < lower.len() {
+        return refuse(refusals::TEXT_TOO_LONG, 0, out);
+    }
+    let mode = drawing::mode_of(header);
+    let height = header.height;
+    let full = header.full_layout;
+    let drawn = join_both(
+        scratch,
+        upper,
+        lower,
+        mode,
+        height,
+        font,
+        count,
+        codes,
+        starts,
+        widths,
+        places,
+        commands,
+        stages,
+        firsts,
+        lasts,
+        news,
+    );
+    put_lines(out, scratch, drawn, mode, vertical_of(full), height)
+}
+
+// Draws two texts by what reading the files gave; the lists hold it.
+fn draw_files(
+    out: &mut [u8],
+    scratch: &mut [u8],
+    upper: &[u8],
+    lower: &[u8],
+    font: &[u8],
+    files: Files,
+    codes: &[i32],
+    starts: &[usize],
+    widths: &[usize],
+    places: &[usize],
+    stages: &[usize],
+    firsts: &[i32],
+    lasts: &[i32],
+    news: &[i32],
+) -> StackAnswer
+    requires { ⌜ ((control : List ℕ) × FilesHeld (now font) control files (now codes) (now starts) (now widths) (now places) (now stages) (now firsts) (now lasts) (now news)) ⌝ }
+    requires { ⌜ minStackedScratch ≤ length (now scratch) ⌝ }
+    ensures { λ r. ⌜ ((control : List ℕ) → FilesHeld (now (font .entry)) control files (now (codes .entry)) (now (starts .entry)) (now (widths .entry)) (now (places .entry)) (now (stages .entry)) (now (firsts .entry)) (now (lasts .entry)) (now (news .entry)) → LinesOut (linesOf (now (font .entry)) control (now (upper .entry)) (now (lower .entry))) (length (now (out .entry))) r (now (out .exit))) ⌝ }
+{
+    match files {
+        Files::Read {
+            header,
+            count,
+            commands,
+        } => draw_texts(
+            out,
+            scratch,
+            upper,
+            lower,
+            font,
+            header,
+            count,
+            codes,
+            starts,
+            widths,
+            places,
+            commands,
+            stages,
+            firsts,
+            lasts,
+            news,
+        ),
+        Files::Refused(r) => refuse(r.number, r.place, out),
+    }
+}
+
+// Reads both files and draws the two texts.
+fn draw_once(
+    out: &mut [u8],
+    scratch: &mut [u8],
+    upper: &[u8],
+    lower: &[u8],
+    font: &[u8],
+    control: &[u8],
+) -> StackAnswer
+    requires { ⌜ minStackedScratch ≤ length (now scratch) ⌝ }
+    ensures { λ r. ⌜ LinesOut (linesOf (now (font .entry)) (now (control .entry)) (now (upper .entry)) (now (lower .entry))) (length (now (out .entry))) r (now (out .exit)) ⌝ }
+{
+    let mut codes = [0i32; limits::MAX_CHARACTERS];
+    let mut starts = [0usize; limits::MAX_CHARACTERS];
+    let mut widths = [0usize; limits::MAX_CHARACTERS];
+    let mut places = [0usize; latest::SMALL_CODES];
+    let mut stages = [0usize; limits::MAX_COMMANDS];
+    let mut firsts = [0i32; limits::MAX_COMMANDS];
+    let mut lasts = [0i32; limits::MAX_COMMANDS];
+    let mut news = [0i32; limits::MAX_COMMANDS];
+    let files = drawing::read_files(
+        font,
+        control,
+        &mut codes,
+        &mut starts,
+        &mut widths,
+        &mut places,
+        &mut stages,
+        &mut firsts,
+        &mut lasts,
+        &mut news,
+    );
+    draw_files(
+        out,
+        scratch,
+        upper,
+        lower,
+        font,
+        files,
+        &codes,
+        &starts,
+        &widths,
+        &places,
+        &stages,
+        &firsts,
+        &lasts,
+        &news,
+    )
+}
+
+// 9 for a scratch under 64,000 bytes; otherwise the drawing, which leaves anything in the scratch.
+fn draw_tested(
+    out: &mut [u8],
+    scratch: &mut [u8],
+    upper: &[u8],
+    lower: &[u8],
+    font: &[u8],
+    control: &[u8],
+) -> StackAnswer
+    ensures { λ r. ⌜ LinesOut (drawLines (length (now (scratch .entry))) (now (font .entry)) (now (control .entry)) (now (upper .entry)) (now (lower .entry))) (length (now (out .entry))) r (now (out .exit)) ⌝ }
+{
+    if scratch.len() < limits::MIN_STACKED_SCRATCH {
+        return refuse(refusals::AREA_TOO_SMALL, 0, out);
+    }
+    draw_once(out, scratch, upper, lower, font, control)
+}
+
+// Draws two texts by a font and a control file, the second under the first: 9 for the scratch, the font's, the control file's, 15, 16, then 9 for the output. The
+// scratch is all zeros afterwards.
+pub fn draw_stacked(
+    font: &[u8],
+    control: &[u8],
+    upper: &[u8],
+    lower: &[u8],
+    scratch: &mut [u8],
+    out: &mut [u8],
+) -> StackAnswer
+    ensures { λ r. ⌜ LinesOut (drawLines (length (now (scratch .entry))) (now (font .entry)) (now (control .entry)) (now (upper .entry)) (now (lower .entry))) (length (now (out .entry))) r (now (out .exit)) ⌝ }
+    ensures { λ r. ⌜ now (scratch .exit) ≡ zeros (length (now (scratch .entry))) ⌝ }
+{
+    let answer = draw_tested(out, scratch, upper, lower, font, control);
+    ground::zero_from(scratch, 0);
+    answer
+}

@@ -1,0 +1,3 @@
+-- The meaning of the vertical pair decision.
+pub mod VerticalPair
+pub mod Steps
