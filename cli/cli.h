@@ -6,7 +6,7 @@
 #include "wattleslate.h"
 #include <stdbool.h>
 
-/* Exit statuses. Where several are due the greatest is given. */
+/* Exit statuses. Where several are due the greatest is given. REFUSED is also given, where that is asked for, for a byte that is not in the font. */
 enum status { GOOD = 0, REFUSED = 1, BAD_USE = 2, BAD_FILE = 3 };
 
 /* A file that was read, and its name for messages. */

@@ -11,7 +11,7 @@
 enum { DRAW = 1, STACK = 2, CHECK = 4, EVERY_WORD = ~0 };
 
 /* The options. What was given for each stands in a call: the value, or the option itself where it takes none; NULL if it was not given. */
-enum { FONT, CONTROL, HELP, SHOW_VERSION, OPTIONS_COUNT };
+enum { FONT, CONTROL, STRICT, HELP, SHOW_VERSION, OPTIONS_COUNT };
 
 /* What the command line asks for. */
 struct call {
@@ -36,8 +36,8 @@ struct word {
 /* The first word is meant where none is given. */
 static const struct word WORDS[] = {
     {"draw", DRAW, 0, "nothing", draw,
-     "  wattleslate [draw] [-f FONT] [-c CONTROL] [NAME...]\n"
-     "      draws each NAME, or without a NAME each line of standard input\n"},
+     "  wattleslate [draw] [-f FONT] [-c CONTROL] [--strict] [NAME...]\n"
+     "      draws each NAME, or without a NAME each line of standard input, and tells of bytes that are not in the font\n"},
     {"stack", STACK, 0, "nothing", stack,
      "  wattleslate stack [-f FONT] [-c CONTROL] [NAME...]\n"
      "      draws the NAMEs, or the lines of standard input, below one another, closed up as the font says\n"},
@@ -57,6 +57,7 @@ struct option {
 static const struct option OPTIONS[] = {
     {"-f", "FONT", DRAW | STACK, FONT, "  -f FONT     draw with this FIGfont, and not with the built-in one\n"},
     {"-c", "CONTROL", DRAW | STACK, CONTROL, "  -c CONTROL  map the characters by this control file first\n"},
+    {"--strict", NULL, DRAW, STRICT, "  --strict    end with status 1 where a byte is not in the font\n"},
     {"-h", NULL, EVERY_WORD, HELP, ""},
     {"--help", NULL, EVERY_WORD, HELP, "  --help, -h  print this help\n"},
     {"--version", NULL, EVERY_WORD, SHOW_VERSION, "  --version   print the version\n"},
@@ -66,7 +67,7 @@ static const char MORE_HELP[] =
     "  --          what follows is no option\n"
     "\n"
     "Each byte of a NAME is one character, 128 to 255 by ISO 8859-1. A first NAME that is a word stands behind `draw`.\n"
-    "Exit status: 0; 1 something was refused; 2 bad use; 3 a file cannot be read or written.\n";
+    "Exit status: 0; 1 something was refused, or by --strict not in the font; 2 bad use; 3 a file cannot be read or written.\n";
 
 #define COUNT(table) (sizeof(table) / sizeof *(table))
 
@@ -109,12 +110,30 @@ struct drawing draw_line(const struct files *files, const struct text *text) {
     return (struct drawing){answer, out};
 }
 
-static enum status draw_text(const struct files *files, const struct text *text) {
-    struct drawing drawing = draw_line(files, text);
-    if (wattleslate_number(drawing.answer) != WATTLESLATE_NOT_REFUSED) {
-        return text_refused(text, drawing.answer);
+/* Writes the rows of a text that was drawn, or says why it was refused. */
+static enum status put_drawing(const struct files *files, const struct text *text, const struct drawing *drawing) {
+    if (wattleslate_number(drawing->answer) != WATTLESLATE_NOT_REFUSED) {
+        return text_refused(text, drawing->answer);
     }
-    return put(drawing.rows, WATTLESLATE_DRAWN(files->height, wattleslate_width(drawing.answer)));
+    return put(drawing->rows, WATTLESLATE_DRAWN(files->height, wattleslate_width(drawing->answer)));
+}
+
+/* Says how many bytes of a text are not in the font; whether there are any. */
+static bool tell_missing(const struct text *text, uint64_t answer) {
+    unsigned replaced = wattleslate_stood_in(answer), left_out = wattleslate_nothing_drawn(answer), missing = replaced + left_out;
+    if (missing == 0) {
+        return false;
+    }
+    show_text(text);
+    fprintf(stderr, ": %u %s not in the font: %u replaced, %u left out\n", missing, missing == 1 ? "byte is" : "bytes are", replaced, left_out);
+    return true;
+}
+
+/* The rows come first, then what is said of them: where they cannot be written, that alone is told. */
+static enum status draw_text(const struct files *files, const struct text *text, bool strict) {
+    struct drawing drawing = draw_line(files, text);
+    enum status status = put_drawing(files, text, &drawing);
+    return status == GOOD && tell_missing(text, drawing.answer) && strict ? REFUSED : status;
 }
 
 /* The text with that number, counted from 0: of the operands, or without one of the lines of standard input. */
@@ -138,12 +157,13 @@ static enum status draw(const struct call *call) {
         return status;
     }
     for (size_t number = 0; status != BAD_FILE && (step = next_text(call, number, &text)) == NEXT; number++) {
-        status = worse(status, draw_text(&files, &text));
+        status = worse(status, draw_text(&files, &text, call->given[STRICT] != NULL));
     }
     return step == FAILED ? BAD_FILE : status;
 }
 
-/* The stack is drawn whole or not at all: a name that is refused is told, and ends it. One name alone is drawn as it is. */
+/* The stack is drawn whole or not at all: a name that is refused is told, and ends it. One name alone is drawn as it is. Of bytes that are not in the
+ * font nothing is said, of one name either: the library's answer for two has no room for their number. */
 static enum status stack(const struct call *call) {
     struct files files;
     struct text upper, lower;
@@ -155,7 +175,8 @@ static enum status stack(const struct call *call) {
     if (step == NEXT) {
         step = next_text(call, 1, &lower);
         if (step == END) {
-            return draw_text(&files, &upper);
+            struct drawing alone = draw_line(&files, &upper);
+            return put_drawing(&files, &upper, &alone);
         }
     }
     if (step != NEXT) {

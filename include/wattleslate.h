@@ -7,13 +7,13 @@
  * The answer has the refusal's number in its upper 16 bits, 0 if it is not refused. Below it stands the refusal's place, 48 bits, or up to three values of 16 bits:
  * a * 2^32 + b * 2^16 + c. The functions at the end take an answer apart. After a refusal every area that was lent for writing is all zeros.
  *
- *     Call                        a         b         c
- *     wattleslate_check_font      0         height    characters
- *     wattleslate_check_control   0         stages    commands
- *     wattleslate_draw            0         0         width
- *     wattleslate_join            0         overlap   width
- *     wattleslate_stack           overlap   height    width
- *     wattleslate_draw_stacked    overlap   height    width
+ *     Call                        a               b          c
+ *     wattleslate_check_font      0               height     characters
+ *     wattleslate_check_control   0               stages     commands
+ *     wattleslate_draw            nothing drawn   stood in   width
+ *     wattleslate_join            0               overlap    width
+ *     wattleslate_stack           overlap         height     width
+ *     wattleslate_draw_stacked    overlap         height     width
  */
 #ifndef WATTLESLATE_H
 #define WATTLESLATE_H
@@ -94,7 +94,10 @@ uint64_t wattleslate_check_font(const uint8_t *font, size_t font_len);
 uint64_t wattleslate_check_control(const uint8_t *file, size_t file_len);
 
 /* Draws a line of text by a font and a control file, which may be empty. `out` then holds the rows, each with an LF, and zeros behind them; `scratch` is all
- * zeros. Refusals: 9 for a scratch under WATTLESLATE_SCRATCH bytes, 1 to 8, 10 to 14, 15, 16, then 9 for `out`. Value: wattleslate_width. */
+ * zeros. For a text byte whose code, after mapping, is not in the font the character with code 0 stands in; without one nothing is drawn for it. Both are counted,
+ * each byte as often as it stands in the text, and at most one of the counts is not 0: the font has a code 0 or has none. A code 0 that the font has is found, and
+ * not counted. Refusals: 9 for a scratch under WATTLESLATE_SCRATCH bytes, 1 to 8, 10 to 14, 15, 16, then 9 for `out`. Values: wattleslate_nothing_drawn,
+ * wattleslate_stood_in and wattleslate_width. */
 uint64_t wattleslate_draw(const uint8_t *font, size_t font_len, const uint8_t *control, size_t control_len, const uint8_t *text,
                           size_t text_len, uint8_t *scratch, size_t scratch_len, uint8_t *out, size_t out_len);
 
@@ -117,7 +120,7 @@ uint64_t wattleslate_stack(const uint8_t *upper, size_t upper_len, size_t upper_
 /* Draws two lines of text by a font and a control file, which may be empty, and stacks the first on the second by the font's vertical layout, which without a Full_Layout is
  * full height. `out` then holds the rows, each with an LF, and zeros behind them; `scratch` is all zeros. Refusals: 9 for a scratch under
  * WATTLESLATE_STACKED_SCRATCH bytes, 1 to 8, 10 to 14, 15 and 16, each for either text, then 9 for `out`. 18 is never given: two lines have 64 rows at most.
- * Values: wattleslate_stack_overlap, wattleslate_height and wattleslate_width. */
+ * Values: wattleslate_stack_overlap, wattleslate_height and wattleslate_width; the bytes that are not in the font are not told. */
 uint64_t wattleslate_draw_stacked(const uint8_t *font, size_t font_len, const uint8_t *control, size_t control_len, const uint8_t *upper,
                                   size_t upper_len, const uint8_t *lower, size_t lower_len, uint8_t *scratch, size_t scratch_len,
                                   uint8_t *out, size_t out_len);
@@ -139,6 +142,16 @@ static inline uint64_t wattleslate_place(uint64_t answer) {
 /* Of the calls that draw, join or stack, where not refused: the width of the drawing or of the result. */
 static inline uint32_t wattleslate_width(uint64_t answer) {
     return (uint16_t)answer;
+}
+
+/* Of wattleslate_draw: for how many text bytes the character with code 0 stood in. A refusal tells 0. */
+static inline uint32_t wattleslate_stood_in(uint64_t answer) {
+    return wattleslate_number(answer) == WATTLESLATE_NOT_REFUSED ? (uint16_t)(answer >> WATTLESLATE_VALUE_BITS) : 0;
+}
+
+/* Of wattleslate_draw: for how many text bytes nothing was drawn. A refusal tells 0. */
+static inline uint32_t wattleslate_nothing_drawn(uint64_t answer) {
+    return wattleslate_number(answer) == WATTLESLATE_NOT_REFUSED ? (uint16_t)(answer >> (2 * WATTLESLATE_VALUE_BITS)) : 0;
 }
 
 /* Of wattleslate_join, where not refused: how many columns of both blocks lie on one another. */

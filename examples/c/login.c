@@ -19,7 +19,8 @@ static size_t load(const char *path) {
     return length;
 }
 
-/* Draws the name, or prints it plainly with the refusal: a prompt must stand in every case. */
+/* Draws the name, or prints it plainly with the refusal: a prompt must stand in every case. A name with bytes that the font lacks is printed plainly too, behind
+ * its drawing, so that nobody takes what stands in for a part of the name. */
 static void banner(const char *path, const char *name) {
     size_t length = load(path);
     uint64_t answer = wattleslate_draw(font, length, (const uint8_t *)"", 0, (const uint8_t *)name, strlen(name), scratch, sizeof scratch, out, sizeof out);
@@ -29,6 +30,10 @@ static void banner(const char *path, const char *name) {
     }
     uint32_t height = wattleslate_height(wattleslate_check_font(font, length));
     fwrite(out, 1, WATTLESLATE_DRAWN(height, wattleslate_width(answer)), stdout);
+    uint32_t replaced = wattleslate_stood_in(answer), left_out = wattleslate_nothing_drawn(answer);
+    if (replaced + left_out > 0) {
+        printf("%s (not in the font: %" PRIu32 " bytes replaced, %" PRIu32 " left out)\n", name, replaced, left_out);
+    }
 }
 
 int main(int count, char **words) {

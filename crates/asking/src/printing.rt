@@ -28,6 +28,12 @@ pub fn named(name: &[u8], n: usize) {
     number(n);
 }
 
+// How many text bytes were stood in and how many drew nothing, each behind a comma.
+pub fn counted(stood_in: usize, nothing_drawn: usize) {
+    named(b", stood in ", stood_in);
+    named(b", nothing drawn ", nothing_drawn);
+}
+
 pub fn signed(z: i32) {
     let w = z as i64;
     if z < 0 {

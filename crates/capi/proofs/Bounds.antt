@@ -23,12 +23,16 @@ use Rattle.flc.specs.Control as flc
 use Rattle.flc.specs.Lists as lists
 use Rattle.flc.proofs.RefusalLaws.{control-refusal}
 use Rattle.flc.proofs.CountLaws.{control-few}
-use Rattle.figure.specs.declared.DrawAnswer.{DrawAnswer}
-use Rattle.figure.specs.declared.DrawAnswer.the-variants as draw-is
+use Rattle.drawing.specs.declared.DrawAnswer.{DrawAnswer}
+use Rattle.drawing.specs.declared.DrawAnswer.the-variants as draw-is
 use Rattle.join.specs.declared.JoinAnswer.the-variants as join-is
 use Rattle.wattleslate.specs.DrawCall.{drawTells, drawTold}
 use Rattle.join.specs.JoinCall.{JoinTold, joinTells, joinTold}
 use Rattle.wattleslate.proofs.ToldApart.{draw-apart}
+use Rattle.source.specs.Source.{fontSource}
+use Rattle.source.proofs.CountLaws.{few-replaced}
+use Rattle.drawing.specs.Drawing.{textCodes}
+use Rattle.drawing.proofs.DrawingLaws.{as-many}
 use Rattle.drawing.proofs.Answers.{DrawsTo, scratch-small, font-refused, control-refused, text-too-long, line-too-wide, output-small, draws, answer, one-of}
 use Rattle.join.proofs.Answers.{refused-tells, joined-within}
 use Rattle.stack.specs.declared.StackAnswer.the-variants as stack-is
@@ -87,9 +91,9 @@ module _ (s : List ℕ) where
           record { a-in-16 = omega arith; b-in-16 = omega (arith, few .1, stages); c-in-16 = omega (arith, few .0, same) }
       go (flc.refuses r) p q = clash (cc)
 
--- A drawing's.
+-- A drawing's: a text has at most 1,024 bytes to count.
 abbrev DrawFits : DrawAnswer → Type 0
-DrawFits (draw-is.Drawn w) = ValuesFit 0 0 w
+DrawFits (draw-is.Drawn w n) = ValuesFit (n .«nothing_drawn») (n .«stood_in») w
 DrawFits (draw-is.Refused r) = RefusalFits (r .number) (r .place)
 
 module _ (size : ℕ) (s control text : List ℕ) (room : ℕ) where
@@ -100,7 +104,10 @@ module _ (size : ℕ) (s control text : List ℕ) (room : ℕ) where
   by-reason _ (text-too-long x t) = table-fits _ _ (omega arith) (omega arith) (omega arith)
   by-reason _ (line-too-wide x t w) = table-fits _ _ (omega arith) (omega arith) (omega arith)
   by-reason _ (output-small x t w m) = table-fits _ _ (omega arith) (omega arith) (omega arith)
-  by-reason _ (draws x t w m) = record { a-in-16 = omega arith; b-in-16 = omega arith; c-in-16 = omega (arith, w) }
+  by-reason _ (draws x t w m) =
+      let few = few-replaced (fontSource s (x .characters)) (textCodes (x .commands) (x .stages) text) in
+      let many = as-many (x .commands) (x .stages) text in
+      record { a-in-16 = omega (arith, few, many, t); b-in-16 = omega (arith, few, many, t); c-in-16 = omega (arith, w) }
 
   pub draw-fits : (a : DrawAnswer) → drawTells a ≡ drawTold size s control text room → DrawFits a
   unfolding drawTold

@@ -56,9 +56,9 @@ fontNumber (Refused r) = refusedAt (r .number) (r .place)
 abbrev pub controlNumber : ControlTold → ℕ
 controlNumber t = telling (t .refused) (t .number) (t .place) (threeValues 0 (t .stages) (t .commands))
 
--- "The answer gives the width."
+-- "The answer gives the width." 02, Q-2: and how many text bytes drew nothing, and how many were stood in.
 abbrev pub drawNumber : DrawTold → ℕ
-drawNumber t = telling (t .refused) (t .number) (t .place) (threeValues 0 0 (t .width))
+drawNumber t = telling (t .refused) (t .number) (t .place) (threeValues (t .nothingDrawn) (t .stoodIn) (t .width))
 
 -- "It answers the overlap and the result width."
 abbrev pub joinNumber : JoinTold → ℕ

@@ -10,6 +10,7 @@ use subchars::Layout;
 use subchars::SubCharacter;
 use subchars::VerticalLayout;
 use wattleslate::JoinAnswer;
+use wattleslate::LinesAnswer;
 use wattleslate::StackAnswer;
 ghost use mathlib.Core.Path.{_≡_};
 ghost use lib.ListN.{length};
@@ -80,7 +81,7 @@ pub extern "C" fn wattleslate_check_control(file: &[u8]) -> u64
     }
 }
 
-// Draws a line of text, and answers its width: `wattleslate::draw`.
+// Draws a line of text, and answers how many text bytes drew nothing, how many were stood in, and the width: `wattleslate::draw`.
 #[no_mangle]
 pub extern "C" fn wattleslate_draw(
     font: &[u8],
@@ -94,7 +95,9 @@ pub extern "C" fn wattleslate_draw(
     ensures scratch { λ r. ⌜ now (scratch .exit) ≡ zeros (length (now (scratch .entry))) ⌝ }
 {
     match wattleslate::draw(font, control, text, scratch, out) {
-        DrawAnswer::Drawn(width) => three_values(0, 0, width),
+        DrawAnswer::Drawn { width, counts } => {
+            three_values(counts.nothing_drawn, counts.stood_in, width)
+        }
         DrawAnswer::Refused(r) => refused_at(r.number, r.place),
     }
 }
@@ -195,11 +198,12 @@ pub extern "C" fn wattleslate_draw_stacked(
     ensures scratch { λ r. ⌜ now (scratch .exit) ≡ zeros (length (now (scratch .entry))) ⌝ }
 {
     match wattleslate::draw_stacked(font, control, upper, lower, scratch, out) {
-        StackAnswer::Stacked {
+        LinesAnswer::Drawn {
             overlap: o,
             height: h,
             width: w,
+            counts: _,
         } => three_values(o, h, w),
-        StackAnswer::Refused(r) => refused_at(r.number, r.place),
+        LinesAnswer::Refused(r) => refused_at(r.number, r.place),
     }
 }

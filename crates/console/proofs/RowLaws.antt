@@ -17,19 +17,21 @@ use Rattle.join.specs.Join.{Block}
 use Rattle.figure.specs.Line.{outputOf}
 use Rattle.drawing.specs.declared.Files.{Files}
 use Rattle.drawing.specs.declared.Files.the-variants as files
-use Rattle.figure.specs.declared.DrawAnswer.{DrawAnswer}
-use Rattle.figure.specs.declared.DrawAnswer.the-variants.{Drawn, Refused}
-use Rattle.drawing.specs.Drawing.{Lined, unlined, linedOf, linedAnswer, PutOut}
+use Rattle.figure.specs.declared.PutAnswer.the-variants as put
+use Rattle.source.specs.declared.Counts.{Counts}
+use Rattle.drawing.specs.declared.DrawAnswer.{DrawAnswer}
+use Rattle.drawing.specs.declared.DrawAnswer.the-variants.{Drawn, Refused}
+use Rattle.drawing.specs.Drawing.{Lined, unlined, linedOf, withCounts, linedAnswer, PutOut}
 use Rattle.drawing.specs.Held.{FilesHeld}
 use Rattle.source.proofs.CharacterLaws.{few-rows}
 use Rattle.drawing.proofs.OutputLaws.{text-long, text-lined}
 use Rattle.console.specs.Rows.{RowsFit}
 
 -- A refused line has no width.
-unlined-none : (l : Lined) (r : Refusal) (room w : ℕ) → l ≡ unlined r → Drawn w ≡ linedAnswer l room → ⊥
+unlined-none : (l : Lined) (r : Refusal) (room w : ℕ) (n : Counts) → l ≡ unlined r → Drawn w n ≡ linedAnswer l room → ⊥
 unfolding linedAnswer
-unlined-none l r room w e a =
-    let b : Drawn w ≡ Refused r = a ∙ ap (λ (k : Lined). linedAnswer k room) e in
+unlined-none l r room w n e a =
+    let b : Drawn w n ≡ Refused r = a ∙ ap (λ (k : Lined). linedAnswer k room) e in
     let z : _≡_ {A = ℕ} 0 1 = cc in
     omega arith
 
@@ -38,33 +40,33 @@ record Fits (h w room : ℕ) : Type 0 where
   pub narrow : w ≤ maxLineWidth
   pub inside : h * (w + 1) ≤ room
 
-answer-cases : (p q : Bool) (v w : ℕ) → Drawn w ≡ cond p (Refused (refusal lineTooWide 0)) (cond q (Refused (refusal areaTooSmall 0)) (Drawn v)) → (p ≡ false) × (q ≡ false) × (w ≡ v)
-answer-cases true q v w e = let z : _≡_ {A = ℕ} 0 1 = cc in absurd (omega arith)
-answer-cases false true v w e = let z : _≡_ {A = ℕ} 0 1 = cc in absurd (omega arith)
-answer-cases false false v w e = (refl, refl, cc)
+answer-cases : (p q : Bool) (v w : ℕ) (m n : Counts) → Drawn w n ≡ withCounts m (cond p (put.Refused (refusal lineTooWide 0)) (cond q (put.Refused (refusal areaTooSmall 0)) (put.Put v))) → (p ≡ false) × (q ≡ false) × (w ≡ v)
+answer-cases true q v w m n e = let z : _≡_ {A = ℕ} 0 1 = cc in absurd (omega arith)
+answer-cases false true v w m n e = let z : _≡_ {A = ℕ} 0 1 = cc in absurd (omega arith)
+answer-cases false false v w m n e = (refl, refl, cc)
 
-drawn-fits : (h : ℕ) (line : Block) (room w : ℕ) → Drawn w ≡ outputOf h line room → Fits h w room
+drawn-fits : (h : ℕ) (line : Block) (room w : ℕ) (m n : Counts) → Drawn w n ≡ withCounts m (outputOf h line room) → Fits h w room
 unfolding outputOf
-drawn-fits h line room w a =
-    let x = answer-cases (ltb maxLineWidth (line .width)) (ltb room (h * (line .width + 1))) (line .width) w a in
+drawn-fits h line room w m n a =
+    let x = answer-cases (ltb maxLineWidth (line .width)) (ltb room (h * (line .width + 1))) (line .width) w m n a in
     record {
       narrow = rw (x .2) (ltb-false maxLineWidth (line .width) (x .0));
       inside = rw (x .2) (ltb-false room (h * (line .width + 1)) (x .1));
     }
 
-module _ (s control text : List ℕ) (codes : List ℤ) (starts widths places stages : List ℕ) (firsts lasts news : List ℤ) (room w : ℕ) (out : List ℕ) where
-  pub rows-in : (f : Files) → FilesHeld s control f codes starts widths places stages firsts lasts news → PutOut (linedOf s control text) room (Drawn w) out → RowsFit f w room
+module _ (s control text : List ℕ) (codes : List ℤ) (starts widths places stages : List ℕ) (firsts lasts news : List ℤ) (room w : ℕ) (counts : Counts) (out : List ℕ) where
+  pub rows-in : (f : Files) → FilesHeld s control f codes starts widths places stages firsts lasts news → PutOut (linedOf s control text) room (Drawn w counts) out → RowsFit f w room
   unfolding linedAnswer
   rows-in (files.Read h n m) held put =
       elim (decLt maxText (length text)) [
-        | yes l ↦ absurd (unlined-none _ _ room w (text-long s control text h _ _ _ (held .0 .said) (held .1 .said) l) (put .answers))
+        | yes l ↦ absurd (unlined-none _ _ room w counts (text-long s control text h _ _ _ (held .0 .said) (held .1 .said) l) (put .answers))
         | no l ↦
             let e = text-lined s control text h _ _ _ (held .0 .said) (held .1 .said) (omega arith) in
-            let x = drawn-fits (h .height) _ room w (put .answers ∙ ap (λ (k : Lined). linedAnswer k room) e) in
+            let x = drawn-fits (h .height) _ room w _ counts (put .answers ∙ ap (λ (k : Lined). linedAnswer k room) e) in
             record { few = few-rows s h n codes starts widths places (held .0); narrow = x .narrow; inside = x .inside }
       ]
-  rows-in (files.Refused r) held put = absurd (unlined-none _ r room w (held text) (put .answers))
+  rows-in (files.Refused r) held put = absurd (unlined-none _ r room w counts (held text) (put .answers))
 
   -- The same of an answer, and of the output after it.
-  pub rows-answered : (f : Files) → FilesHeld s control f codes starts widths places stages firsts lasts news → (a : DrawAnswer) (room′ : ℕ) → a ≡ Drawn w → PutOut (linedOf s control text) room a out → room′ ≡ room → RowsFit f w room′
+  pub rows-answered : (f : Files) → FilesHeld s control f codes starts widths places stages firsts lasts news → (a : DrawAnswer) (room′ : ℕ) → a ≡ Drawn w counts → PutOut (linedOf s control text) room a out → room′ ≡ room → RowsFit f w room′
   rows-answered f held a room′ e put r = rw r (rows-in f held (rw e at put))

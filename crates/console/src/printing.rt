@@ -81,7 +81,7 @@ fn print_wide(
         lasts,
         news,
     ) {
-        DrawAnswer::Drawn(w) => print_rows(&out, files, w),
+        DrawAnswer::Drawn { width, counts: _ } => print_rows(&out, files, width),
         DrawAnswer::Refused(r) => print_refusal(r),
     }
 }
@@ -120,7 +120,7 @@ pub(crate) fn print_line(
         lasts,
         news,
     ) {
-        DrawAnswer::Drawn(w) => print_rows(out, files, w),
+        DrawAnswer::Drawn { width, counts: _ } => print_rows(out, files, width),
         DrawAnswer::Refused(r) => {
             if r.number == refusals::AREA_TOO_SMALL {
                 print_wide(

@@ -1,7 +1,7 @@
 -- Each answer of a drawing is given exactly when document 01 says so: the answer is one of those named here, and what is named for an answer gives it.
 -- Then the bytes of the output.
 -- Assumes nothing.
-use mathlib.Core.Path.{_≡_, refl, sym, ap, _∙_, subst}
+use mathlib.Core.Path.{_≡_, refl, sym, ap, ap₂, _∙_, subst}
 use mathlib.Core.Bool.{Bool, true, false}
 use mathlib.Core.List.{List}
 use mathlib.Core.Logic.{_↔_, _⊎_, inl, inr, ⊎-elim}
@@ -19,7 +19,7 @@ use Rattle.ground.proofs.Areas.{padded-at}
 use Rattle.subchars.specs.Pair.{blanked}
 use Rattle.join.specs.Join.{Block}
 use Rattle.join.proofs.Rows.{row-room}
-use Rattle.figure.specs.Line.{shown, outputOf, outputBytes, drawnOnly}
+use Rattle.figure.specs.Line.{shown, outputOf, outputBytes, putOnly}
 use Rattle.figure.proofs.Showing.{too-wide, no-room, drawn, shown-byte, shown-lf, length-shown}
 use Rattle.header.specs.declared.Header.{Header}
 use Rattle.chars.specs.declared.Entry.{Entry}
@@ -28,9 +28,11 @@ use Rattle.font.proofs.ReadingLaws.{font-refusal}
 use Rattle.flc.specs.declared.Command.{Command}
 use Rattle.flc.specs.Control as flc
 use Rattle.flc.proofs.RefusalLaws.{control-refusal}
-use Rattle.figure.specs.declared.DrawAnswer.{DrawAnswer}
-use Rattle.figure.specs.declared.DrawAnswer.the-variants.{Drawn, Refused}
-use Rattle.drawing.specs.Drawing.{modeOf, fontLine, Lined, lined, unlined, linedBy, linedOf, drawLined, linedAnswer, bytesOf}
+use Rattle.figure.specs.declared.PutAnswer.{PutAnswer}
+use Rattle.source.specs.declared.Counts.{Counts}
+use Rattle.drawing.specs.declared.DrawAnswer.{DrawAnswer}
+use Rattle.drawing.specs.declared.DrawAnswer.the-variants.{Drawn, Refused}
+use Rattle.drawing.specs.Drawing.{modeOf, fontLine, fontCounts, Lined, lined, unlined, linedBy, linedOf, drawLined, withCounts, linedAnswer, bytesOf}
 use Rattle.drawing.proofs.OutputLaws.{text-long, text-lined}
 use Rattle.drawing.proofs.SizeLaws.{lined-small, lined-enough}
 
@@ -49,11 +51,15 @@ module _ (size : ℕ) (s control text : List ℕ) (room : ℕ) where
   abbrev pub lineBy : FilesRead → Block
   lineBy x = fontLine s (x .header) (x .characters) (x .commands) (x .stages) text
 
+  -- Its counts.
+  abbrev pub countsBy : FilesRead → Counts
+  countsBy x = fontCounts s (x .characters) (x .commands) (x .stages) text
+
   -- The bytes that it takes.
   abbrev pub bytesBy : FilesRead → ℕ
   bytesBy x = x .header .height * (lineBy x .width + 1)
 
-  -- "Drawing: 9 for all working areas, the font's, the control file's, 15, 16, then 9 for the output"; otherwise the width.
+  -- "Drawing: 9 for all working areas, the font's, the control file's, 15, 16, then 9 for the output"; otherwise the width and the counts.
   pub data DrawsTo : DrawAnswer → Type 0 where
     scratch-small : size < minScratch → DrawsTo (Refused (refusal areaTooSmall 0))
     font-refused : minScratch ≤ size → (r : Refusal) → font.reading s ≡ font.refuses r → DrawsTo (Refused r)
@@ -61,7 +67,7 @@ module _ (size : ℕ) (s control text : List ℕ) (room : ℕ) where
     text-too-long : FilesRead → maxText < length text → DrawsTo (Refused (refusal textTooLong 0))
     line-too-wide : (x : FilesRead) → length text ≤ maxText → maxLineWidth < lineBy x .width → DrawsTo (Refused (refusal lineTooWide 0))
     output-small : (x : FilesRead) → length text ≤ maxText → lineBy x .width ≤ maxLineWidth → room < bytesBy x → DrawsTo (Refused (refusal areaTooSmall 0))
-    draws : (x : FilesRead) → length text ≤ maxText → lineBy x .width ≤ maxLineWidth → bytesBy x ≤ room → DrawsTo (Drawn (lineBy x .width))
+    draws : (x : FilesRead) → length text ≤ maxText → lineBy x .width ≤ maxLineWidth → bytesBy x ≤ room → DrawsTo (Drawn (lineBy x .width) (countsBy x))
 
   abbrev pub answer : DrawAnswer
   answer = linedAnswer (drawLined size s control text) room
@@ -73,12 +79,12 @@ module _ (size : ℕ) (s control text : List ℕ) (room : ℕ) where
   unfolding linedAnswer
   refused-by r e = by-line (unlined r) e
 
-  is-lined : (x : FilesRead) → length text ≤ maxText → drawLined size s control text ≡ lined (modeOf (x .header)) (x .header .height) (lineBy x)
+  is-lined : (x : FilesRead) → length text ≤ maxText → drawLined size s control text ≡ lined (modeOf (x .header)) (x .header .height) (lineBy x) (countsBy x)
   is-lined x t =
       lined-enough size s control text (x .scratch-enough) ∙
       text-lined s control text (x .header) (x .characters) (x .commands) (x .stages) (x .font-read) (x .control-read) t
 
-  put-by : (x : FilesRead) → length text ≤ maxText → answer ≡ outputOf (x .header .height) (lineBy x) room
+  put-by : (x : FilesRead) → length text ≤ maxText → answer ≡ withCounts (countsBy x) (outputOf (x .header .height) (lineBy x) room)
   unfolding linedAnswer
   put-by x t = by-line _ (is-lined x t)
 
@@ -91,9 +97,9 @@ module _ (size : ℕ) (s control text : List ℕ) (room : ℕ) where
       refused-by r (lined-enough size s control text u ∙ ap (λ (x : font.FontReading). linedBy s x (flc.control control) text) f ∙ ap (λ (x : flc.ControlReading). linedBy s (font.says h es) x text) c)
   gives _ (text-too-long x t) =
       refused-by _ (lined-enough size s control text (x .scratch-enough) ∙ text-long s control text (x .header) (x .characters) (x .commands) (x .stages) (x .font-read) (x .control-read) t)
-  gives _ (line-too-wide x t w) = put-by x t ∙ sym (too-wide 0 (x .header .height) (lineBy x) room w)
-  gives _ (output-small x t w m) = put-by x t ∙ sym (no-room 0 (x .header .height) (lineBy x) room w m)
-  gives _ (draws x t w m) = put-by x t ∙ sym (drawn 0 (x .header .height) (lineBy x) room w m)
+  gives _ (line-too-wide x t w) = put-by x t ∙ ap (withCounts (countsBy x)) (sym (too-wide 0 (x .header .height) (lineBy x) room w))
+  gives _ (output-small x t w m) = put-by x t ∙ ap (withCounts (countsBy x)) (sym (no-room 0 (x .header .height) (lineBy x) room w m))
+  gives _ (draws x t w m) = put-by x t ∙ ap (withCounts (countsBy x)) (sym (drawn 0 (x .header .height) (lineBy x) room w m))
 
   -- and the answer is one of them.
   pub one-of : DrawsTo answer
@@ -159,13 +165,13 @@ module _ (size : ℕ) (s control text : List ℕ) (room : ℕ) where
       ((h : Header) × (es : List Entry) × (cs : List Command) × (k : ℕ) × (Read h es cs k) × (length text ≤ maxText) × (lineFor h es cs k .width ≤ maxLineWidth) ×
       (room < h .height * (lineFor h es cs k .width + 1))))
 
-  abbrev DrawnAs : ℕ → Type 0
-  DrawnAs w =
+  abbrev DrawnAs : ℕ → Counts → Type 0
+  DrawnAs w n =
       (h : Header) × (es : List Entry) × (cs : List Command) × (k : ℕ) × (Read h es cs k) × (length text ≤ maxText) × (lineFor h es cs k .width ≤ maxLineWidth) ×
-      (h .height * (lineFor h es cs k .width + 1) ≤ room) × (w ≡ lineFor h es cs k .width)
+      (h .height * (lineFor h es cs k .width + 1) ≤ room) × (w ≡ lineFor h es cs k .width) × (n ≡ fontCounts s es cs k text)
 
   abbrev Told : DrawAnswer → Type 0
-  Told (Drawn w) = DrawnAs w
+  Told (Drawn w n) = DrawnAs w n
   Told (Refused r) =
       (r .number ≤ tooManyCharacters → FontFor r) ×
       (controlFileTooLong ≤ r .number → r .number ≤ tooManyCommands → ControlFor r) ×
@@ -187,7 +193,7 @@ module _ (size : ℕ) (s control text : List ℕ) (room : ℕ) where
       (λ e. absurd (omega arith), λ e f. absurd (omega arith), λ e. absurd (omega arith), λ e. (refl, x .header, x .characters, x .commands, x .stages, read x, t, w), λ e. absurd (omega arith))
   told _ (output-small x t w m) =
       (λ e. absurd (omega arith), λ e f. absurd (omega arith), λ e. absurd (omega arith), λ e. absurd (omega arith), λ e. (refl, inr (x .header, x .characters, x .commands, x .stages, read x, t, w, m)))
-  told _ (draws x t w m) = (x .header, x .characters, x .commands, x .stages, read x, t, w, m, refl)
+  told _ (draws x t w m) = (x .header, x .characters, x .commands, x .stages, read x, t, w, m, refl, refl)
 
   tells : (a : DrawAnswer) → answer ≡ a → Told a
   tells a e = told a (subst DrawsTo e one-of)
@@ -214,8 +220,8 @@ module _ (size : ℕ) (s control text : List ℕ) (room : ℕ) where
         (⊎-elim (λ u. gives _ (scratch-small u)) (λ v. gives _ (output-small (files (v .0) (v .1) (v .2) (v .3) (v .4)) (v .5) (v .6) (v .7))) (w .1)),
   )
 
-  pub row-drawn : (w : ℕ) → answer ≡ Drawn w ↔ DrawnAs w
-  row-drawn w = (λ e. tells _ e, λ v. gives _ (draws (files (v .0) (v .1) (v .2) (v .3) (v .4)) (v .5) (v .6) (v .7)) ∙ ap Drawn (sym (v .8)))
+  pub row-drawn : (w : ℕ) (n : Counts) → answer ≡ Drawn w n ↔ DrawnAs w n
+  row-drawn w n = (λ e. tells _ e, λ v. gives _ (draws (files (v .0) (v .1) (v .2) (v .3) (v .4)) (v .5) (v .6) (v .7)) ∙ ap₂ Drawn (sym (v .8)) (sym (v .9)))
 
   -- The output of a text that is drawn.
   module _ (x : FilesRead) (t : length text ≤ maxText) (w : lineBy x .width ≤ maxLineWidth) (m : bytesBy x ≤ room) where
@@ -229,7 +235,7 @@ module _ (size : ℕ) (s control text : List ℕ) (room : ℕ) where
     unfolding bytesOf outputBytes modeOf
     bytes-are =
         ap (λ (l : Lined). bytesOf l room) (is-lined x t) ∙
-        ap (λ (a : DrawAnswer). drawnOnly a (shown hardblank (x .header .height) (lineBy x))) (sym (drawn 0 (x .header .height) (lineBy x) room w m))
+        ap (λ (a : PutAnswer). putOnly a (shown hardblank (x .header .height) (lineBy x))) (sym (drawn 0 (x .header .height) (lineBy x) room w m))
 
     at-place : (r k : ℕ) → r < x .header .height → k < lineBy x .width + 1 → getD output (r * (lineBy x .width + 1) + k) 0 ≡ getD (shown hardblank (x .header .height) (lineBy x)) (r * (lineBy x .width + 1) + k) 0
     at-place r k u v =

@@ -1,6 +1,7 @@
 -- One character more: the line in the scratch area is the line with what was chosen for a code.
 -- Assumes nothing.
 use mathlib.Core.Path.{_≡_}
+use mathlib.Core.Bool.{Bool, true, false}
 use Prim.Native.Nat.{ℕ, _≤_}
 use mathlib.Core.List.{List}
 use native.Mathlib.Omega.{arith}
@@ -19,13 +20,16 @@ use Rattle.drawing.specs.Steps.{withCharacter, Reached}
 
 module _ (s at : List ℕ) (h : ℕ) (r : Chosen) where
   -- a chosen character has its rows in the bytes
-  pub chosen-rows : (m : ℕ) → r ≡ chosen.Character m → (x : Choice) → ChosenAs s at h r x → (m ≤ maxFontLength) × RowsIn s at m h
-  chosen-rows m e x z = go x (rw e at z)
+  pub chosen-rows : (m : ℕ) (b : Bool) → r ≡ chosen.Character m b → (x : Choice) → ChosenAs s at h r x → (m ≤ maxFontLength) × RowsIn s at m h
+  chosen-rows m b e x z = go b x (rw e at z)
     where
-      go : (x : Choice) → ChosenAs s at h (chosen.Character m) x → (m ≤ maxFontLength) × RowsIn s at m h
-      go (found c) z = (z .narrow, z .rows)
-      go (stoodIn c) z = (z .narrow, z .rows)
-      go nothing z = absurd z
+      go : (b : Bool) (x : Choice) → ChosenAs s at h (chosen.Character m b) x → (m ≤ maxFontLength) × RowsIn s at m h
+      go true (found c) z = (z .narrow, z .rows)
+      go true (stoodIn c) z = absurd z
+      go true nothing z = absurd z
+      go false (found c) z = absurd z
+      go false (stoodIn c) z = (z .narrow, z .rows)
+      go false nothing z = absurd z
 
   module _ (y : Mode) (limit n : ℕ) (area : List ℕ) where
     abbrev line : Block
@@ -50,10 +54,13 @@ module _ (s at : List ℕ) (h : ℕ) (r : Chosen) where
             beyond = λ l. omega (arith, holds .width, a .width);
           }
 
-      pub reached : r ≡ chosen.Character m → (x : Choice) → ChosenAs s at h r x → Reached y h limit w area′ (withCharacter y h x line)
-      reached e x z = go x (rw e at z)
+      pub reached : (b : Bool) → r ≡ chosen.Character m b → (x : Choice) → ChosenAs s at h r x → Reached y h limit w area′ (withCharacter y h x line)
+      reached b e x z = go b x (rw e at z)
         where
-          go : (x : Choice) → ChosenAs s at h (chosen.Character m) x → Reached y h limit w area′ (withCharacter y h x line)
-          go (found c) z = joined c z
-          go (stoodIn c) z = joined c z
-          go nothing z = absurd z
+          go : (b : Bool) (x : Choice) → ChosenAs s at h (chosen.Character m b) x → Reached y h limit w area′ (withCharacter y h x line)
+          go true (found c) z = joined c z
+          go true (stoodIn c) z = absurd z
+          go true nothing z = absurd z
+          go false (found c) z = absurd z
+          go false (stoodIn c) z = joined c z
+          go false nothing z = absurd z

@@ -1,4 +1,4 @@
--- What the definition of drawing comes to: each byte more is one join more, the width by the trace, and the empty text.
+-- What the definition of drawing comes to: each byte more is one join more and one code counted more, the width by the trace, and the empty text.
 -- Assumes nothing.
 use mathlib.Core.Path.{_≡_, refl, ap, _∙_}
 use mathlib.Core.List.{List, [], _∷_, _++_, map}
@@ -6,7 +6,7 @@ use Prim.Native.Nat.{ℕ, zero, suc, _+_}
 use native.Mathlib.Omega.{arith}
 use native.Mathlib.Nat.{zero-add}
 use lib.IntN.{pos}
-use lib.ListN.{replicate}
+use lib.ListN.{length, length-map, replicate}
 use Rattle.ground.specs.Area.{values}
 use Rattle.ground.specs.Text.{byte}
 use Rattle.subchars.specs.declared.Code.{Code}
@@ -16,6 +16,8 @@ use Rattle.figure.specs.Line.{attached, empty, lineFrom, overlapsFrom, shown}
 use Rattle.figure.proofs.Turning.{over-le, attached-wide}
 use Rattle.chars.specs.Codes.{code}
 use Rattle.source.specs.Source.{Choice, found, stoodIn, nothing, Source}
+use Rattle.source.specs.Counting.{isNothing, one, howMany, countsOf, counted}
+use Rattle.source.proofs.CountLaws.{counts-more}
 use Rattle.flc.specs.declared.Command.{Command}
 use Rattle.flc.specs.Mapping.{mapStages}
 use Rattle.drawing.specs.Drawing.{codesOf, mappedCodes, textCodes, withChoice, charactersOf, lineOf, traceOf}
@@ -27,6 +29,17 @@ unfolding lineFrom
 from-append y h l [] ys = refl
 from-append y h l (x ∷ xs) ys = from-append y h (attached y h l x) xs ys
 
+-- A text has a code for each byte.
+module _ (cs : List Command) (k : ℕ) where
+  codes-append : (t u : List ℕ) → textCodes cs k (t ++ u) ≡ textCodes cs k t ++ textCodes cs k u
+  unfolding codesOf mappedCodes
+  codes-append [] u = refl
+  codes-append (b ∷ t) u = ap (λ (l : List Code). mapStages cs 0 k (code (pos b)) ∷ l) (codes-append t u)
+
+  pub as-many : (text : List ℕ) → length (textCodes cs k text) ≡ length text
+  unfolding codesOf mappedCodes
+  as-many text = length-map (codesOf text) (mapStages cs 0 k) ∙ length-map text (λ b. code (pos b))
+
 module _ (source : Source) where
   with-append : (x : Choice) (xs ys : List Block) → withChoice x (xs ++ ys) ≡ withChoice x xs ++ ys
   with-append (found c) xs ys = refl
@@ -37,6 +50,17 @@ module _ (source : Source) where
   unfolding charactersOf
   characters-append [] cs = refl
   characters-append (d ∷ ds) cs = ap (withChoice (source d)) (characters-append ds cs) ∙ with-append (source d) (charactersOf source ds) (charactersOf source cs)
+
+  -- "The number of characters drawn, plus those that drew nothing, is the number of" codes
+  drawn-or-nothing : (x : Choice) (cs : List Block) → length (withChoice x cs) + one (isNothing x) ≡ 1 + length cs
+  drawn-or-nothing (found c) cs = omega arith
+  drawn-or-nothing (stoodIn c) cs = omega arith
+  drawn-or-nothing nothing cs = omega arith
+
+  pub characters-drawn : (codes : List Code) → length (charactersOf source codes) + countsOf source codes .«nothing_drawn» ≡ length codes
+  unfolding charactersOf countsOf howMany
+  characters-drawn [] = refl
+  characters-drawn (c ∷ cs) = omega (arith, drawn-or-nothing (source c) (charactersOf source cs), characters-drawn cs)
 
   module _ (y : Mode) (h : ℕ) where
     -- a code more at the end is one character more at the line, or none
@@ -51,20 +75,25 @@ module _ (source : Source) where
         last nothing = refl
 
     module _ (cs : List Command) (k : ℕ) where
-      codes-append : (t u : List ℕ) → textCodes cs k (t ++ u) ≡ textCodes cs k t ++ textCodes cs k u
-      unfolding codesOf mappedCodes
-      codes-append [] u = refl
-      codes-append (b ∷ t) u = ap (λ (l : List Code). mapStages cs 0 k (code (pos b)) ∷ l) (codes-append t u)
-
       -- a byte more at the end of a text is one character more at the line, or none
       pub one-join-more : (text : List ℕ) (b : ℕ) → lineOf y h source (textCodes cs k (text ++ (b ∷ []))) ≡ withCharacter y h (source (mapStages cs 0 k (code (pos b)))) (lineOf y h source (textCodes cs k text))
       unfolding codesOf mappedCodes
-      one-join-more text b = ap (lineOf y h source) (codes-append text (b ∷ [])) ∙ one-code-more (textCodes cs k text) (mapStages cs 0 k (code (pos b)))
+      one-join-more text b = ap (lineOf y h source) (codes-append cs k text (b ∷ [])) ∙ one-code-more (textCodes cs k text) (mapStages cs 0 k (code (pos b)))
 
       -- a text without bytes is an empty line
       pub empty-line : lineOf y h source (textCodes cs k []) ≡ empty
       unfolding lineOf codesOf mappedCodes charactersOf lineFrom
       empty-line = refl
+
+-- The counts of a text and of one byte more.
+module _ (source : Source) (cs : List Command) (k : ℕ) where
+  pub one-byte-counted : (text : List ℕ) (b : ℕ) → countsOf source (textCodes cs k (text ++ (b ∷ []))) ≡ counted (source (mapStages cs 0 k (code (pos b)))) (countsOf source (textCodes cs k text))
+  unfolding codesOf mappedCodes
+  one-byte-counted text b = ap (countsOf source) (codes-append cs k text (b ∷ [])) ∙ counts-more source (textCodes cs k text) (mapStages cs 0 k (code (pos b)))
+
+  -- "The number of characters drawn, plus those that drew nothing, is the number of text bytes."
+  pub all-bytes : (text : List ℕ) → length (charactersOf source (textCodes cs k text)) + countsOf source (textCodes cs k text) .«nothing_drawn» ≡ length text
+  all-bytes text = characters-drawn source (textCodes cs k text) ∙ as-many cs k text
 
 -- "Empty text gives Height LFs."
 snoc : (n x : ℕ) → replicate n x ++ (x ∷ []) ≡ x ∷ replicate n x

@@ -13,6 +13,7 @@ use Rattle.ground.specs.Area.{zeros, padded}
 use Rattle.ground.specs.Limits.{maxLineWidth, maxText}
 use Rattle.ground.specs.Refusals.{refusal, textTooLong, lineTooWide}
 use Rattle.ground.specs.declared.refusals.Refusal.{Refusal}
+use Rattle.subchars.specs.declared.Code.{Code}
 use Rattle.subchars.specs.declared.Mode.{Mode}
 use Rattle.join.specs.Join.{Block}
 use Rattle.figure.specs.Line.{outputOf, outputBytes}
@@ -23,9 +24,13 @@ use Rattle.chars.specs.declared.Entry.{Entry}
 use Rattle.font.specs.Font as font
 use Rattle.flc.specs.declared.Command.{Command}
 use Rattle.flc.specs.Control as flc
-use Rattle.figure.specs.declared.DrawAnswer.{DrawAnswer}
-use Rattle.figure.specs.declared.DrawAnswer.the-variants.{Refused}
-use Rattle.drawing.specs.Drawing.{modeOf, fontLine, lined, unlined, linedBy, linedOf, linedAnswer, bytesOf, PutOut}
+use Rattle.figure.specs.declared.PutAnswer.{PutAnswer}
+use Rattle.source.specs.declared.Counts.{Counts}
+use Rattle.source.specs.Source.{Source, fontSource}
+use Rattle.source.specs.Counting.{countsOf}
+use Rattle.drawing.specs.declared.DrawAnswer.{DrawAnswer}
+use Rattle.drawing.specs.declared.DrawAnswer.the-variants.{Refused}
+use Rattle.drawing.specs.Drawing.{textCodes, lineOf, modeOf, linedText, unlined, linedBy, linedOf, withCounts, linedAnswer, bytesOf, PutOut}
 use Rattle.drawing.specs.Steps.{Reached}
 
 -- A refusal leaves zeros.
@@ -34,7 +39,10 @@ unfolding linedAnswer bytesOf
 unlined-out r room out e = record { answers = refl; holds = e }
 
 -- The line in the area, w wide, and the line that it stands for.
-module _ (y : Mode) (h w : ℕ) (area : List ℕ) (line : Block) (reached : Reached y h maxLineWidth w area line) (room : ℕ) where
+module _ (y : Mode) (h : ℕ) (source : Source) (codes : List Code) (w : ℕ) (counts : Counts) (area : List ℕ) (reached : Reached y h maxLineWidth w area (lineOf y h source codes)) (are : w ≤ maxLineWidth → counts ≡ countsOf source codes) (room : ℕ) where
+  abbrev line : Block
+  line = lineOf y h source codes
+
   abbrev held : Block
   held = scratchLine (y .direction) w area
 
@@ -57,22 +65,30 @@ module _ (y : Mode) (h w : ℕ) (area : List ℕ) (line : Block) (reached : Reac
         | no l ↦ ap (λ (b : List ℕ). padded b room) (bytes-like h held line (reached .within (omega arith)) hardblank room)
       ]
 
-  pub lined-out : (a : DrawAnswer) (out : List ℕ) → a ≡ outputOf h held room → out ≡ padded (outputBytes (y .hardblank .0) h held room) room → PutOut (lined y h line) room a out
+  -- a line that is too wide has no counts
+  same-counts : withCounts counts (outputOf h line room) ≡ withCounts (countsOf source codes) (outputOf h line room)
+  same-counts =
+      elim (decLt maxLineWidth w) [
+        | yes l ↦ let e = sym (too-wide 0 h line room (reached .beyond l)) in ap (withCounts counts) e ∙ sym (ap (withCounts (countsOf source codes)) e)
+        | no l ↦ ap (λ (n : Counts). withCounts n (outputOf h line room)) (are (omega arith))
+      ]
+
+  pub lined-out : (a : DrawAnswer) (p : PutAnswer) (out : List ℕ) → a ≡ withCounts counts p → p ≡ outputOf h held room → out ≡ padded (outputBytes (y .hardblank .0) h held room) room → PutOut (linedText y h source codes) room a out
   unfolding linedAnswer bytesOf
-  lined-out a out e b = record { answers = e ∙ same-output; holds = b ∙ same-bytes (y .hardblank .0) }
+  lined-out a p out f e b = record { answers = f ∙ ap (withCounts counts) (e ∙ same-output) ∙ same-counts; holds = b ∙ same-bytes (y .hardblank .0) }
 
 -- A text, by a font and a control file that are read.
 module _ (s control text : List ℕ) (h : Header) (es : List Entry) (cs : List Command) (k : ℕ) (font-said : font.reading s ≡ font.says h es) (control-said : flc.control control ≡ flc.reads cs k) where
-  read-lined : linedOf s control text ≡ cond (ltb maxText (length text)) (unlined (refusal textTooLong 0)) (lined (modeOf h) (h .height) (fontLine s h es cs k text))
+  read-lined : linedOf s control text ≡ cond (ltb maxText (length text)) (unlined (refusal textTooLong 0)) (linedText (modeOf h) (h .height) (fontSource s es) (textCodes cs k text))
   unfolding linedOf
   read-lined = ap (λ (f : font.FontReading). linedBy s f (flc.control control) text) font-said ∙ ap (λ (c : flc.ControlReading). linedBy s (font.says h es) c text) control-said
 
-  by-length : (b : Bool) → ltb maxText (length text) ≡ b → linedOf s control text ≡ cond b (unlined (refusal textTooLong 0)) (lined (modeOf h) (h .height) (fontLine s h es cs k text))
-  by-length b e = read-lined ∙ ap (λ (x : Bool). cond x (unlined (refusal textTooLong 0)) (lined (modeOf h) (h .height) (fontLine s h es cs k text))) e
+  by-length : (b : Bool) → ltb maxText (length text) ≡ b → linedOf s control text ≡ cond b (unlined (refusal textTooLong 0)) (linedText (modeOf h) (h .height) (fontSource s es) (textCodes cs k text))
+  by-length b e = read-lined ∙ ap (λ (x : Bool). cond x (unlined (refusal textTooLong 0)) (linedText (modeOf h) (h .height) (fontSource s es) (textCodes cs k text))) e
 
   -- 15: "text too long"
   pub text-long : maxText < length text → linedOf s control text ≡ unlined (refusal textTooLong 0)
   text-long l = by-length true (lt-ltb maxText (length text) l)
 
-  pub text-lined : length text ≤ maxText → linedOf s control text ≡ lined (modeOf h) (h .height) (fontLine s h es cs k text)
+  pub text-lined : length text ≤ maxText → linedOf s control text ≡ linedText (modeOf h) (h .height) (fontSource s es) (textCodes cs k text)
   text-lined l = by-length false (le-ltb maxText (length text) l)

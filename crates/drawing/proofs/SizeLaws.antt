@@ -8,7 +8,7 @@ use lib.Dec.{ltb}
 use borrow.Author.Tests.{lt-ltb, le-ltb}
 use Rattle.ground.specs.Refusals.{refusal, areaTooSmall}
 use Rattle.ground.specs.Limits.{minScratch}
-use Rattle.figure.specs.declared.DrawAnswer.{DrawAnswer}
+use Rattle.drawing.specs.declared.DrawAnswer.{DrawAnswer}
 use Rattle.drawing.specs.Drawing.{Lined, unlined, linedOf, drawLined, PutOut}
 
 module _ (size : ℕ) (s control text : List ℕ) where

@@ -1,9 +1,10 @@
--- A text drawn byte after byte is the line of the text: what is left to do leads to the same line.
+-- A text drawn byte after byte is the line of the text, and what is missing is counted: what is left to do leads to the same.
 -- Assumes nothing.
 use mathlib.Core.Path.{_≡_, refl, sym, ap, _∙_, subst}
 use Prim.Native.Nat.{ℕ, _+_, _≤_, _<_}
 use mathlib.Core.List.{List, []}
 use native.Mathlib.Omega.{arith}
+use native.Mathlib.Nat.{zero-add}
 use native.Mathlib.Numerals.{add-one}
 use lib.IntN.{pos}
 use lib.ListN.{length, drop, getD, drop-of-length-le}
@@ -18,6 +19,8 @@ use Rattle.figure.specs.Scratch.{scratchLine}
 use Rattle.figure.proofs.Folding.{from-like, grows}
 use Rattle.chars.specs.Codes.{code}
 use Rattle.source.specs.Source.{Choice, found, stoodIn, nothing, Source}
+use Rattle.source.specs.Counting.{isMissing, one, howMany}
+use Rattle.source.proofs.CountLaws.{few-missing}
 use Rattle.flc.specs.declared.Command.{Command}
 use Rattle.flc.specs.Mapping.{mapStages}
 use Rattle.drawing.specs.Drawing.{codesOf, mappedCodes, textCodes, withChoice, charactersOf, lineOf}
@@ -85,3 +88,40 @@ module _ (y : Mode) (h : ℕ) (source : Source) where
                 within = λ w. absurd (omega arith);
                 beyond = λ w. omega (arith, x .beyond v, grows y h (withCharacter y h (source c) line) (rest-from (i + 1)), step .width);
               }
+
+-- The codes that are missing, with those of the text from its i-th byte on, are those of the text.
+module _ (source : Source) (cs : List Command) (k : ℕ) (text : List ℕ) where
+  abbrev missing-from : ℕ → ℕ
+  missing-from i = howMany isMissing source (textCodes cs k (drop i text))
+
+  abbrev missing-all : ℕ
+  missing-all = howMany isMissing source (textCodes cs k text)
+
+  pub record Counted (m i : ℕ) : Type 0 where
+    pub whole : m + missing-from i ≡ missing-all
+
+  pub counted-first : Counted 0 0
+  counted-first = record { whole = zero-add _ }
+
+  module _ (m i : ℕ) (so : Counted m i) where
+    -- there are never more than the text has codes
+    pub counted-few : m ≤ length (textCodes cs k text)
+    counted-few = omega (arith, so .whole, few-missing source (textCodes cs k text))
+
+    pub counted-end : length text ≤ i → m ≡ missing-all
+    unfolding codesOf mappedCodes howMany
+    counted-end u =
+        let e : drop i text ≡ [] = drop-of-length-le text u in
+        let a : m + 0 ≡ missing-all = subst (λ (t : List ℕ). m + howMany isMissing source (textCodes cs k t) ≡ missing-all) e (so .whole) in
+        omega (arith, a)
+
+    -- one byte more
+    module _ (u : i < length text) (c : Code) (is : c ≡ mapStages cs 0 k (code (pos (getD text i 0)))) where
+      from-next : missing-from i ≡ one (isMissing (source c)) + missing-from (i + 1)
+      unfolding codesOf mappedCodes howMany
+      from-next =
+          ap (λ (t : List ℕ). howMany isMissing source (textCodes cs k t)) (drop-cons text i 0 u) ∙ ap (λ (j : ℕ). one (isMissing (source (mapStages cs 0 k (code (pos (getD text i 0)))))) + missing-from j) (sym (add-one i)) ∙
+          ap (λ (z : Code). one (isMissing (source z)) + missing-from (i + 1)) (sym is)
+
+      pub counted-next : (n : ℕ) → n ≡ m + one (isMissing (source c)) → Counted n (i + 1)
+      counted-next n e = record { whole = omega (arith, e, so .whole, from-next) }

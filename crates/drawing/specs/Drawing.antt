@@ -18,8 +18,8 @@ use Rattle.subchars.specs.declared.Direction.the-variants.{LeftToRight}
 use Rattle.subchars.specs.declared.Mode.{Mode}
 use Rattle.subchars.specs.Layouts.{printDirection}
 use Rattle.join.specs.Join.{Block}
-use Rattle.figure.specs.declared.DrawAnswer.{DrawAnswer}
-use Rattle.figure.specs.declared.DrawAnswer.the-variants.{Refused}
+use Rattle.figure.specs.declared.PutAnswer.{PutAnswer}
+use Rattle.figure.specs.declared.PutAnswer.the-variants as put
 use Rattle.figure.specs.Line.{empty, lineFrom, overlapsFrom, outputOf, outputBytes}
 use Rattle.header.specs.declared.Given.{Given}
 use Rattle.header.specs.declared.Given.the-variants.{Absent, Of}
@@ -27,10 +27,14 @@ use Rattle.header.specs.declared.Header.{Header}
 use Rattle.chars.specs.declared.Entry.{Entry}
 use Rattle.chars.specs.Codes.{code}
 use Rattle.font.specs.Font as font
+use Rattle.source.specs.declared.Counts.{Counts}
 use Rattle.source.specs.Source.{Choice, found, stoodIn, nothing, Source, fontSource}
+use Rattle.source.specs.Counting.{countsOf}
 use Rattle.flc.specs.declared.Command.{Command}
 use Rattle.flc.specs.Control as flc
 use Rattle.flc.specs.Mapping.{mapStages}
+use Rattle.drawing.specs.declared.DrawAnswer.{DrawAnswer}
+use Rattle.drawing.specs.declared.DrawAnswer.the-variants.{Drawn, Refused}
 
 -- 1. "Each text byte's code": 0 to 255.
 unfoldable pub codesOf : List ℕ → List Code
@@ -81,15 +85,24 @@ modeOf h = record { layout = h .layout; direction = directionOf (h .«print_dire
 abbrev pub fontLine : List ℕ → Header → List Entry → List Command → ℕ → List ℕ → Block
 fontLine s h es commands stages text = lineOf (modeOf h) (h .height) (fontSource s es) (textCodes commands stages text)
 
--- "Drawing: .. the font's, the control file's, 15, 16, then 9 for the output." A line of the given height that is to be put out, or one of the first three.
+-- The counts of a text by a font and a control file: 02, Q-2, "by the definition of look-up".
+abbrev pub fontCounts : List ℕ → List Entry → List Command → ℕ → List ℕ → Counts
+fontCounts s es commands stages text = countsOf (fontSource s es) (textCodes commands stages text)
+
+-- "Drawing: .. the font's, the control file's, 15, 16, then 9 for the output." A line of the given height that is to be put out, with its text's counts; or
+-- one of the first three.
 pub data Lined : Type 0 where
-  lined : Mode → ℕ → Block → Lined
+  lined : Mode → ℕ → Block → Counts → Lined
   unlined : Refusal → Lined
+
+-- The line and the counts of the codes that a text draws.
+abbrev pub linedText : Mode → ℕ → Source → List Code → Lined
+linedText y h source codes = lined y h (lineOf y h source codes) (countsOf source codes)
 
 -- From a source on: the control file's, then 15.
 abbrev pub linedFrom : Mode → ℕ → Source → flc.ControlReading → List ℕ → Lined
 linedFrom y h source (flc.refuses r) text = unlined r
-linedFrom y h source (flc.reads cs stages) text = cond (ltb maxText (length text)) (unlined (refusal textTooLong 0)) (lined y h (lineOf y h source (textCodes cs stages text)))
+linedFrom y h source (flc.reads cs stages) text = cond (ltb maxText (length text)) (unlined (refusal textTooLong 0)) (linedText y h source (textCodes cs stages text))
 
 abbrev pub linedBy : List ℕ → font.FontReading → flc.ControlReading → List ℕ → Lined
 linedBy s (font.refuses r) control text = unlined r
@@ -102,15 +115,19 @@ linedOf s control text = linedBy s (font.reading s) (flc.control control) text
 unfoldable pub drawLined : ℕ → List ℕ → List ℕ → List ℕ → Lined
 drawLined scratch s control text = cond (ltb scratch minScratch) (unlined (refusal areaTooSmall 0)) (linedOf s control text)
 
--- 5. "The output is each row with hardblanks as blanks, then LF; the answer gives the width."
+-- 5. "The output is each row with hardblanks as blanks, then LF; the answer gives the width." 02, Q-2: and both counts, which a refusal has not.
+abbrev pub withCounts : Counts → PutAnswer → DrawAnswer
+withCounts n (put.Put w) = Drawn w n
+withCounts n (put.Refused r) = Refused r
+
 unfoldable pub linedAnswer : Lined → ℕ → DrawAnswer
 linedAnswer (unlined r) room = Refused r
-linedAnswer (lined y h l) room = outputOf h l room
+linedAnswer (lined y h l n) room = withCounts n (outputOf h l room)
 
 -- The bytes at the start of the output: none after a refusal.
 unfoldable pub bytesOf : Lined → ℕ → List ℕ
 bytesOf (unlined r) room = []
-bytesOf (lined y h l) room = outputBytes (y .hardblank .0) h l room
+bytesOf (lined y h l n) room = outputBytes (y .hardblank .0) h l room
 
 -- "A refusal fills every lent writable area with zeros. A success fills all room behind its answer with zeros." The answer and the output, of the
 -- given room.

@@ -1,5 +1,5 @@
 // Drawing a line of text from a font and a control file that were read once.
-pub use figure::DrawAnswer;
+use figure::PutAnswer;
 use flc::ControlAnswer;
 use flc::mapping;
 use ground::limits;
@@ -10,6 +10,7 @@ use header::Header;
 use index::latest;
 use reader::FontAnswer;
 use source::Chosen;
+use source::Counts;
 use subchars::Code;
 use subchars::Direction;
 use subchars::Mode;
@@ -20,19 +21,33 @@ ghost use lib.IntN.{pos};
 ghost use lib.ListN.{length};
 ghost use Rattle.ground.specs.Area.{zeros};
 ghost use Rattle.ground.specs.Limits.{maxLineWidth, maxHeight, maxCharacters, maxCommands, minScratch};
+ghost use Rattle.subchars.specs.declared.Code.{Code};
 ghost use Rattle.chars.specs.Codes.{code};
 ghost use Rattle.index.specs.Index.{CharacterRoom};
 ghost use Rattle.index.specs.Latest.{smallCodes};
-ghost use Rattle.join.specs.Join.{Block};
 ghost use Rattle.join.specs.Writing.{RowAfterRow};
 ghost use Rattle.figure.specs.Scratch.{scratchLine};
 ghost use Rattle.flc.specs.Passing.{ControlHeld};
 ghost use Rattle.flc.specs.Filling.{CommandRoom};
-ghost use Rattle.source.specs.Source.{Source};
+ghost use Rattle.source.specs.Source.{Choice, Source};
+ghost use Rattle.source.specs.Counting.{countsOf};
 ghost use Rattle.source.specs.Held.{FontHeld, Gives};
-ghost use Rattle.drawing.specs.Drawing.{directionOf, modeOf, textCodes, lineOf, Lined, linedOf, drawLined, PutOut};
+ghost use Rattle.source.specs.Steps.{ChosenAs};
+ghost use Rattle.drawing.specs.Drawing.{directionOf, modeOf, textCodes, lineOf, Lined, linedText, linedOf, drawLined, withCounts, PutOut};
 ghost use Rattle.drawing.specs.Held.{filesOf, FilesHeld};
-ghost use Rattle.drawing.specs.Steps.{withCharacter, Reached};
+ghost use Rattle.drawing.specs.Steps.{withCharacter, Reached, TextDrawn};
+
+// What drawing answers: the width of the line, how many text bytes were stood in and how many drew nothing; or a refusal.
+pub enum DrawAnswer {
+    Drawn { width: usize, counts: Counts },
+    Refused(Refusal),
+}
+
+// A text that was drawn into a scratch area: the width of its line, and how many of its codes are not in the font.
+pub struct DrawnText {
+    pub width: usize,
+    pub missing: usize,
+}
 
 // What reading both files gave: the font's header and how many characters and commands the lists hold; or the refusal of one of the files.
 pub enum Files {
@@ -69,40 +84,25 @@ pub fn mode_of(header: Header) -> Mode
     }
 }
 
-// Joins the character that is drawn for a code to the line, n wide, in the area; answers the new width. Its rows are found in a lent list.
-fn draw_code(
+// Joins the character that was chosen for a code to the line, n wide, in the area; answers the new width. Its rows start at the places found.
+fn draw_chosen(
     area: &mut [u8],
-    found: &mut [usize],
+    chosen: Chosen,
+    found: &[usize],
     rows: &[usize],
     n: usize,
     limit: usize,
-    code: Code,
     mode: Mode,
     height: usize,
     font: &[u8],
-    count: usize,
-    codes: &[i32],
-    starts: &[usize],
-    widths: &[usize],
-    places: &[usize],
 ) -> usize
-    requires { ⌜ ((source : Source) × Gives source (now font) height count (now codes) (now starts) (now widths) (now places)) ⌝ }
-    requires { ⌜ (n ≤ limit) × (limit ≤ maxLineWidth) × (minScratch ≤ length (now area)) × (maxHeight ≤ length (now found)) ⌝ }
+    requires { ⌜ ((x : Choice) × ChosenAs (now font) (now found) height chosen x) ⌝ }
+    requires { ⌜ (n ≤ limit) × (limit ≤ maxLineWidth) × (height ≤ maxHeight) × (minScratch ≤ length (now area)) ⌝ }
     requires { ⌜ RowAfterRow maxLineWidth height (now rows) ⌝ }
-    ensures { λ w. ⌜ ((source : Source) → Gives source (now (font .entry)) height count (now (codes .entry)) (now (starts .entry)) (now (widths .entry)) (now (places .entry)) → Reached mode height limit w (now (area .exit)) (withCharacter mode height (source code) (scratchLine (mode .direction) n (now (area .entry))))) ⌝ }
+    ensures { λ w. ⌜ ((x : Choice) → ChosenAs (now (font .entry)) (now (found .entry)) height chosen x → Reached mode height limit w (now (area .exit)) (withCharacter mode height x (scratchLine (mode .direction) n (now (area .entry))))) ⌝ }
 {
-    match source::choose(
-        code,
-        font,
-        height,
-        count,
-        codes,
-        starts,
-        widths,
-        places,
-        found,
-    ) {
-        Chosen::Character(width) => {
+    match chosen {
+        Chosen::Character { width, own: _ } => {
             let attached = figure::attach(area, rows, n, limit, mode, font, found, width, height);
             attached.width
         }
@@ -117,7 +117,7 @@ fn code_of(byte: u8) -> Code
     Code(byte as i32)
 }
 
-// Joins the characters of a text in turn, from an empty line on; answers the line's width. It stops where that passes the limit.
+// Joins the characters of a text in turn, from an empty line on, and counts the codes that are not in the font. It stops where the line passes the limit.
 pub fn join_text(
     area: &mut [u8],
     text: &[u8],
@@ -135,41 +135,39 @@ pub fn join_text(
     firsts: &[i32],
     lasts: &[i32],
     news: &[i32],
-) -> usize
+) -> DrawnText
     requires { ⌜ ((source : Source) × Gives source (now font) height count (now codes) (now starts) (now widths) (now places)) ⌝ }
     requires { ⌜ ((control : List ℕ) × ControlHeld control commands (now stages) (now firsts) (now lasts) (now news)) ⌝ }
     requires { ⌜ (limit ≤ maxLineWidth) × (minScratch ≤ length (now area)) ⌝ }
-    ensures { λ w. ⌜ ((source : Source) (given : Gives source (now (font .entry)) height count (now (codes .entry)) (now (starts .entry)) (now (widths .entry)) (now (places .entry))) (control : List ℕ) (held : ControlHeld control commands (now (stages .entry)) (now (firsts .entry)) (now (lasts .entry)) (now (news .entry))) → Reached mode height limit w (now (area .exit)) (lineOf mode height source (textCodes (held .commands) (held .count) (now (text .entry))))) ⌝ }
+    ensures { λ d. ⌜ ((source : Source) (given : Gives source (now (font .entry)) height count (now (codes .entry)) (now (starts .entry)) (now (widths .entry)) (now (places .entry))) (control : List ℕ) (held : ControlHeld control commands (now (stages .entry)) (now (firsts .entry)) (now (lasts .entry)) (now (news .entry))) → TextDrawn mode height limit source (textCodes (held .commands) (held .count) (now (text .entry))) d (now (area .exit))) ⌝ }
 {
     let rows = join::row_starts(limits::MAX_LINE_WIDTH, height);
     let mut found = [0usize; limits::MAX_HEIGHT];
     let mut n: usize = 0;
+    let mut missing: usize = 0;
     let mut i: usize = 0;
     while i < text.len() {
         let byte = code_of(text[i]);
         let code = mapping::map_by(stages, firsts, lasts, news, commands, byte);
-        n = draw_code(
-            area,
-            &mut found,
-            &rows,
-            n,
-            limit,
+        let chosen = source::choose(
             code,
-            mode,
-            height,
             font,
+            height,
             count,
             codes,
             starts,
             widths,
             places,
+            &mut found,
         );
+        n = draw_chosen(area, chosen, &found, &rows, n, limit, mode, height, font);
+        missing = source::count_missing(missing, chosen);
         if limit < n {
-            return n;
+            return DrawnText { width: n, missing };
         }
         i += 1;
     }
-    n
+    DrawnText { width: n, missing }
 }
 
 // A refusal, with zeros all through the output.
@@ -180,12 +178,30 @@ fn refuse(r: Refusal, out: &mut [u8]) -> DrawAnswer
     DrawAnswer::Refused(r)
 }
 
-// Puts out the line w wide that the area holds.
-fn put_out(out: &mut [u8], area: &[u8], mode: Mode, height: usize, w: usize) -> DrawAnswer
-    requires { ⌜ (height ≤ maxHeight) × (minScratch ≤ length (now area)) ⌝ }
-    ensures { λ a. ⌜ ((line : Block) → Reached mode height maxLineWidth w (now (area .entry)) line → PutOut (Lined.lined mode height line) (length (now (out .entry))) a (now (out .exit))) ⌝ }
+// The counts beside the answer of putting out; none beside a refusal.
+fn with_counts(counts: Counts, answer: PutAnswer) -> DrawAnswer
+    ensures { λ a. ⌜ a ≡ withCounts counts answer ⌝ }
 {
-    figure::put_out(out, area, mode, w, height)
+    match answer {
+        PutAnswer::Put(width) => DrawAnswer::Drawn { width, counts },
+        PutAnswer::Refused(r) => DrawAnswer::Refused(r),
+    }
+}
+
+// Puts out the line that a text has drawn in the area, w wide, with its counts.
+fn put_out(
+    out: &mut [u8],
+    area: &[u8],
+    mode: Mode,
+    height: usize,
+    w: usize,
+    counts: Counts,
+) -> DrawAnswer
+    requires { ⌜ (height ≤ maxHeight) × (minScratch ≤ length (now area)) ⌝ }
+    ensures { λ a. ⌜ ((source : Source) (codes : List Code) → Reached mode height maxLineWidth w (now (area .entry)) (lineOf mode height source codes) → (w ≤ maxLineWidth → counts ≡ countsOf source codes) → PutOut (linedText mode height source codes) (length (now (out .entry))) a (now (out .exit))) ⌝ }
+{
+    let answer = figure::put_out(out, area, mode, w, height);
+    with_counts(counts, answer)
 }
 
 // Draws a text by a font and a control file that were read: 15, 16, then 9 for the output.
@@ -222,7 +238,7 @@ fn draw_text(
     }
     let mode = mode_of(header);
     let height = header.height;
-    let w = join_text(
+    let drawn = join_text(
         area,
         text,
         limits::MAX_LINE_WIDTH,
@@ -240,7 +256,17 @@ fn draw_text(
         lasts,
         news,
     );
-    put_out(out, area, mode, height, w)
+    let counts = source::counts_of(
+        drawn.missing,
+        font,
+        height,
+        count,
+        codes,
+        starts,
+        widths,
+        places,
+    );
+    put_out(out, area, mode, height, drawn.width, counts)
 }
 
 // Draws a text by what reading the files gave; the lists hold it. Nothing is promised of what the area then holds.

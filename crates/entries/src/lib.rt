@@ -5,7 +5,7 @@ mod seen;
 
 use chars::Entry;
 use reader::FontAnswer;
-use reader::Use;
+use reader::LookedUp;
 use subchars::Code;
 ghost use mathlib.Core.Path.{_≡_};
 ghost use lib.ListN.{length};
@@ -28,17 +28,17 @@ pub fn read_font(font: &[u8], index: &mut [Entry]) -> FontAnswer
     listed.answer
 }
 
-// The entry that is used for a code, of the first `count` entries of a list: the last that has it, or else the last with code 0. A count beyond
-// the list's end is its length.
-pub fn find_in(index: &[Entry], count: usize, code: Code) -> Use
+// Looks a code up in the first `count` entries of a list: the last that has it is found, or else the last with code 0 stands in. A count beyond the
+// list's end is its length.
+pub fn find_in(index: &[Entry], count: usize, code: Code) -> LookedUp
     ensures answer { λ r. ⌜ entryTells r ≡ findTold (now (index .entry)) count code ⌝ }
 {
     let n = ground::smaller(count, index.len());
-    let mut used = Use::Nothing;
+    let mut seen = LookedUp::Nothing;
     let mut i: usize = 0;
     while i < n {
-        used = seen::better(used, index[i], code);
+        seen = seen::better(seen, index[i], code);
         i += 1;
     }
-    used
+    seen
 }

@@ -1,34 +1,35 @@
-// The entry that is used for a code, as one entry after another is seen.
+// Which of three a look-up comes to, as one entry after another is seen.
 use chars::Entry;
-use reader::Use;
+use reader::LookedUp;
 use subchars::Code;
 ghost use mathlib.Core.Path.{_≡_};
-ghost use Rattle.entries.specs.Steps.{hasCode, better};
+ghost use Rattle.entries.specs.Steps.{isFound, better};
 
-// Whether the entry used has the code itself.
-fn has_code(used: Use, code: Code) -> bool
-    ensures { λ r. ⌜ r ≡ hasCode used code ⌝ }
+// Whether the code itself was found.
+fn is_found(seen: LookedUp) -> bool
+    ensures { λ r. ⌜ r ≡ isFound seen ⌝ }
 {
-    let Use::Used(e) = used else {
-        return false;
-    };
-    let c = e.code;
-    chars::same_code(c, code)
+    match seen {
+        LookedUp::Found(_) => true,
+        LookedUp::StoodIn(_) => false,
+        LookedUp::Nothing => false,
+    }
 }
 
-// The entry used after one more is seen: that one, if it has the code, or if it has code 0 and none before it had the code itself.
-pub fn better(used: Use, e: Entry, code: Code) -> Use
-    ensures { λ r. ⌜ r ≡ better code used e ⌝ }
+// What the look-up comes to after one more entry is seen: that one is found, if it has the code; it stands in, if it has code 0 and none before it had
+// the code itself.
+pub fn better(seen: LookedUp, e: Entry, code: Code) -> LookedUp
+    ensures { λ r. ⌜ r ≡ better code seen e ⌝ }
 {
     let c = e.code;
     if chars::same_code(c, code) {
-        return Use::Used(e);
+        return LookedUp::Found(e);
     }
-    if has_code(used, code) {
-        return used;
+    if is_found(seen) {
+        return seen;
     }
     if chars::same_code(c, Code(0)) {
-        return Use::Used(e);
+        return LookedUp::StoodIn(e);
     }
-    used
+    seen
 }

@@ -6,6 +6,7 @@ use asking::areas::used_output;
 use asking::behind;
 use asking::load;
 use asking::past_byte;
+use asking::printing::counted;
 use asking::printing::named;
 use asking::printing::refused;
 use asking::row_of;
@@ -18,7 +19,10 @@ const MOST_SCRATCH: usize = 32001;
 
 fn show_answer(answer: DrawAnswer) {
     match answer {
-        DrawAnswer::Drawn(w) => named(b"width ", w),
+        DrawAnswer::Drawn { width, counts } => {
+            named(b"width ", width);
+            counted(counts.stood_in, counts.nothing_drawn);
+        }
         DrawAnswer::Refused(r) => refused(r.number, r.place),
     }
 }

@@ -1,6 +1,6 @@
-// What is printed about a font: what it says, the character that is used for a code, and a row.
+// What is printed about a font: what it says, what looking a code up came to, and a row.
 use crate::indexes::ask;
-use crate::indexes::show;
+use crate::indexes::show_looked;
 use asking::behind;
 use asking::code_of;
 use asking::printing::heading;
@@ -87,15 +87,14 @@ pub(crate) fn show_font(font: &[u8]) {
     }
 }
 
-// The character that is used for a code, behind the font's name; the code is the second word.
+// What looking a code up came to, behind the font's name; the code is the second word.
 pub(crate) fn show_entry(font: &[u8], words: &[u8]) {
     let word = word_of(behind(words));
     text(word_of(words));
     text(b" ");
     heading(word);
     match wattleslate::look_up(font, code_of(word)) {
-        LookUpAnswer::Used(entry) => show(entry),
-        LookUpAnswer::Nothing => text(b"none"),
+        LookUpAnswer::Looked(looked) => show_looked(looked),
         LookUpAnswer::Refused(r) => refused(r.number, r.place),
     }
 }

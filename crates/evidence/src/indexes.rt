@@ -9,9 +9,9 @@ use asking::printing::text;
 use asking::row_of;
 use asking::word_of;
 use chars::Entry;
-use reader::Use;
 use subchars::Code;
 use wattleslate::FontAnswer;
+use wattleslate::LookedUp;
 ghost use Prim.Native.Nat.{_<_, _≤_};
 
 // How many entries the array has that is lent, whole or a part of it.
@@ -20,7 +20,7 @@ const MOST: usize = 600;
 // What the two calls answer, and the entry that was asked for.
 pub(crate) struct Asked {
     pub(crate) answer: FontAnswer,
-    pub(crate) used: Use,
+    pub(crate) looked: LookedUp,
     pub(crate) entry: Entry,
 }
 
@@ -39,11 +39,11 @@ pub(crate) fn ask(font: &[u8], size: usize, count: usize, code: Code, place: usi
 {
     let mut entries = nines();
     let answer = wattleslate::read_font(font, &mut entries[..size]);
-    let used = wattleslate::find_in(&entries[..size], count, code);
+    let looked = wattleslate::find_in(&entries[..size], count, code);
     let entry = entries[place];
     Asked {
         answer,
-        used,
+        looked,
         entry,
     }
 }
@@ -56,10 +56,18 @@ pub(crate) fn show(e: Entry) {
     named(b", width ", e.width);
 }
 
-fn show_used(used: Use) {
-    match used {
-        Use::Used(e) => show(e),
-        Use::Nothing => text(b"none"),
+// Which of three a look-up came to.
+pub(crate) fn show_looked(looked: LookedUp) {
+    match looked {
+        LookedUp::Found(e) => {
+            text(b"found ");
+            show(e);
+        }
+        LookedUp::StoodIn(e) => {
+            text(b"stood in ");
+            show(e);
+        }
+        LookedUp::Nothing => text(b"nothing"),
     }
 }
 
@@ -73,20 +81,20 @@ fn show_answer(answer: FontAnswer) {
     }
 }
 
-// The answer of reading the font, the entry used, and the entry at the place.
+// The answer of reading the font, what the look-up came to, and the entry at the place.
 fn show_asked(a: Asked, place: usize) {
     let answer = a.answer;
-    let used = a.used;
+    let looked = a.looked;
     let entry = a.entry;
     show_answer(answer);
-    text(b"; used ");
-    show_used(used);
+    text(b"; ");
+    show_looked(looked);
     named(b"; at ", place);
     text(b": ");
     show(entry);
 }
 
-// The words are a size, a count, a code and a place: the answer of reading the font, the entry used for the code, and the entry at the place.
+// The words are a size, a count, a code and a place: the answer of reading the font, what looking the code up came to, and the entry at the place.
 pub(crate) fn show_index(font: &[u8], words: &[u8]) {
     let size = ground::smaller(row_of(word_of(words)), MOST);
     let second = behind(words);

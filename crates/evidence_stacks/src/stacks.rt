@@ -36,17 +36,20 @@ fn layout_of(word: &[u8]) -> VerticalLayout {
     VerticalLayout::from_full(n)
 }
 
-pub(crate) fn show_answer(answer: StackAnswer) {
+// The numbers of a stack.
+pub(crate) fn show_numbers(overlap: usize, height: usize, width: usize) {
+    named(b"overlap ", overlap);
+    named(b", height ", height);
+    named(b", width ", width);
+}
+
+fn show_answer(answer: StackAnswer) {
     match answer {
         StackAnswer::Stacked {
             overlap,
             height,
             width,
-        } => {
-            named(b"overlap ", overlap);
-            named(b", height ", height);
-            named(b", width ", width);
-        }
+        } => show_numbers(overlap, height, width),
         StackAnswer::Refused(r) => refused(r.number, r.place),
     }
 }

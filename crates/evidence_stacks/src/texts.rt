@@ -1,5 +1,5 @@
 // What is printed about two texts drawn one above the other: the answer, all of the output, and whether the scratch is all zeros.
-use crate::stacks::show_answer;
+use crate::stacks::show_numbers;
 use asking::areas::MOST_ROOM;
 use asking::areas::show_output;
 use asking::areas::show_scratch;
@@ -8,9 +8,12 @@ use asking::behind;
 use asking::first_block;
 use asking::load;
 use asking::past_byte;
+use asking::printing::counted;
+use asking::printing::refused;
 use asking::row_of;
 use asking::second_block;
 use asking::word_of;
+use wattleslate::LinesAnswer;
 ghost use Prim.Native.Nat.{_≤_};
 
 // The array of which a scratch is lent.
@@ -19,6 +22,21 @@ const MOST_SCRATCH: usize = 64001;
 // A scratch that holds something before it is drawn into.
 fn used_scratch() -> [u8; MOST_SCRATCH] {
     [9u8; MOST_SCRATCH]
+}
+
+fn show_answer(answer: LinesAnswer) {
+    match answer {
+        LinesAnswer::Drawn {
+            overlap,
+            height,
+            width,
+            counts,
+        } => {
+            show_numbers(overlap, height, width);
+            counted(counts.stood_in, counts.nothing_drawn);
+        }
+        LinesAnswer::Refused(r) => refused(r.number, r.place),
+    }
 }
 
 // Draws, and shows what came of it.

@@ -6,7 +6,7 @@ use mathlib.Core.Logic.{_↔_}
 use Prim.Native.Nat.{ℕ, zero, suc, _≤_, _<_}
 use native.Mathlib.Omega.{arith}
 use lib.IntN.{ℤ, pos}
-use lib.ListN.{length, take, getD}
+use lib.ListN.{length, take, getD, length-map}
 use lib.Seq.{getD-take, length-take-le}
 use Rattle.ground.proofs.Tests.{clash}
 use Rattle.subchars.specs.declared.Code.{Code}
@@ -31,7 +31,7 @@ found-inside c l k e = go (lastAt (c .0) l) refl e
     go Nowhere p q = at-last (pos 0) l k (sym q) .inside
 
 -- An entry by what the lists hold of it.
-entry-parts : (es : List Entry) (k : ℕ) → k < length es → entryAt es k ≡ Used (entry (code (getD (map codeOf es) k (pos 0))) (getD (map startOf es) k 0) (getD (map widthOf es) k 0))
+pub entry-parts : (es : List Entry) (k : ℕ) → k < length es → entryAt es k ≡ Used (entry (code (getD (map codeOf es) k (pos 0))) (getD (map startOf es) k 0) (getD (map widthOf es) k 0))
 unfolding entryAt
 entry-parts [] k h = absurd (omega arith)
 entry-parts (e ∷ es) zero h = refl
@@ -39,10 +39,6 @@ entry-parts (e ∷ es) (suc k) h = entry-parts es k (omega arith)
 
 part-is : {A : Type 0} (g : Entry → A) (es : List Entry) (l : List A) (k : ℕ) (d : A) → k < length es → take (length es) l ≡ map g es → getD (map g es) k d ≡ getD l k d
 part-is g es l k d h e = ap (λ (m : List _). getD m k d) (sym e) ∙ getD-take (length es) l k d h
-
-length-map : {A : Type 0} (g : Entry → A) (es : List Entry) → length (map g es) ≡ length es
-length-map g [] = refl
-length-map g (e ∷ es) = ap suc (length-map g es)
 
 -- the entry at a place is what the lists hold there
 pub parts-at : (codes : List ℤ) (starts widths : List ℕ) (es : List Entry) → Lists es codes starts widths → (k : ℕ) → k < length es →
@@ -86,5 +82,5 @@ unused-exactly c es = (λ p. go (lookUp c (map codeOf es)) refl p, λ q. ap (λ 
     some k h q = let y = sym (entry-parts es k h) ∙ q in clash (cc)
 
     go : (f : Found) → lookUp c (map codeOf es) ≡ f → atFound f es ≡ Nothing → f ≡ Nowhere
-    go (At k) r q = some k (omega (arith, found-inside c (map codeOf es) k (sym r), length-map codeOf es)) q
+    go (At k) r q = some k (omega (arith, found-inside c (map codeOf es) k (sym r), length-map es codeOf)) q
     go Nowhere r q = refl

@@ -3,7 +3,7 @@
 use mathlib.Core.Path.{_≡_}
 use mathlib.Core.List.{List, [], _∷_, map}
 use Prim.Native.Nat.{ℕ, zero, suc, _<_}
-use lib.IntN.{ℤ}
+use lib.IntN.{ℤ, pos}
 use lib.ListN.{length}
 use Rattle.subchars.specs.declared.Code.{Code}
 use Rattle.header.specs.declared.Header.{Header}
@@ -12,9 +12,11 @@ use Rattle.font.specs.Font.{FontReading, says, refuses, format, withCharacters}
 use Rattle.index.specs.declared.Found.{Found}
 use Rattle.index.specs.declared.Found.the-variants.{At, Nowhere}
 use Rattle.index.specs.Index.{codeOf, listingAt, Lists}
-use Rattle.index.specs.LookUp.{lookUp}
+use Rattle.index.specs.LookUp.{lastAt, lookUp}
 use Rattle.reader.specs.declared.FontAnswer.{FontAnswer}
 use Rattle.reader.specs.declared.FontAnswer.the-variants.{Read, Refused}
+use Rattle.reader.specs.declared.LookedUp.{LookedUp}
+use Rattle.reader.specs.declared.LookedUp.the-variants as three
 use Rattle.reader.specs.declared.Use.{Use}
 use Rattle.reader.specs.declared.Use.the-variants.{Used, Nothing}
 
@@ -55,3 +57,17 @@ atFound Nowhere es = Nothing
 -- "When codes repeat, the last is used. Otherwise the character with code 0 stands in; if there is none, nothing is drawn."
 unfoldable pub used : Code → List Entry → Use
 used c es = atFound (lookUp c (map codeOf es)) es
+
+-- The last entry of a code, if there is one.
+unfoldable pub lastOf : ℤ → List Entry → Use
+lastOf z es = atFound (lastAt z (map codeOf es)) es
+
+-- 02, Q-2: "The look-up must say which of three it was: found as itself, stood in by code 0, or nothing." By the last entry of the code, and the last
+-- of code 0.
+abbrev pub whichOf : Use → Use → LookedUp
+whichOf (Used e) z = three.Found e
+whichOf Nothing (Used e) = three.StoodIn e
+whichOf Nothing Nothing = three.Nothing
+
+unfoldable pub lookedUp : Code → List Entry → LookedUp
+lookedUp c es = whichOf (lastOf (c .0) es) (lastOf (pos 0) es)

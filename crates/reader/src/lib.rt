@@ -31,6 +31,13 @@ pub enum Use {
     Nothing,
 }
 
+// Which of three looking a code up came to: its own character, the one of code 0 that stands in for it, or nothing.
+pub enum LookedUp {
+    Found(Entry),
+    StoodIn(Entry),
+    Nothing,
+}
+
 // What a header says of the rows.
 fn format_of(h: Header) -> Format
     ensures { λ r. ⌜ r ≡ format h ⌝ }

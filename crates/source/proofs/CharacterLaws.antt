@@ -1,11 +1,11 @@
 -- The character that a font has for a code: its rows are parts of the font, and what was chosen is what the font has.
 -- Assumes nothing.
-use mathlib.Core.Path.{_≡_, refl, sym, ap, subst}
-use mathlib.Core.Bool.{Bool, true, false, cond}
+use mathlib.Core.Path.{_≡_, refl, sym, ap, _∙_}
+use mathlib.Core.Bool.{Bool, true, false}
 use Prim.Native.Nat.{ℕ, _+_, _≤_, _<_}
 use mathlib.Core.List.{List}
 use native.Mathlib.Omega.{arith}
-use lib.IntN.{ℤ}
+use lib.IntN.{ℤ, pos}
 use lib.ListN.{getD, length, take}
 use Rattle.ground.specs.Limits.{maxFontLength, maxHeight}
 use Rattle.subchars.specs.declared.Code.{Code}
@@ -13,21 +13,24 @@ use Rattle.join.specs.Writing.{Like}
 use Rattle.figure.specs.Scratch.{characterAt, RowsIn}
 use Rattle.header.specs.declared.Header.{Header}
 use Rattle.chars.specs.declared.Entry.{Entry}
-use Rattle.chars.specs.Codes.{sameCode}
+use Rattle.chars.specs.Codes.{code, sameCode}
 use Rattle.font.specs.Font.{says, format, reading}
 use Rattle.font.proofs.ReadingLaws.{font-read}
 use Rattle.index.specs.Index.{CharacterRoom, Lists}
 use Rattle.index.specs.Latest.{Latest}
 use Rattle.reader.specs.declared.Use.{Use}
 use Rattle.reader.specs.declared.Use.the-variants.{Used, Nothing}
-use Rattle.reader.specs.Reader.{used}
+use Rattle.reader.specs.Reader.{used, lookedUp}
+use Rattle.reader.proofs.ThreeLaws.{own-found, other-stood-in, unused-nothing, used-zero}
 use Rattle.request.proofs.RowLaws.{RowStands, used-stands}
 use Rattle.lines.specs.Lines.{lineEnd, after}
 use Rattle.source.specs.declared.Chosen.{Chosen}
 use Rattle.source.specs.declared.Chosen.the-variants as chosen
-use Rattle.source.specs.Source.{Source, found, stoodIn, characterOf, choiceOf, fontSource}
+use Rattle.source.specs.Source.{Source, characterOf, choiceOf, fontSource}
+use Rattle.source.specs.Counting.{isStoodIn, isNothing, howMany}
 use Rattle.source.specs.Held.{FontHeld, Gives, of-font}
 use Rattle.source.specs.Steps.{Standing, RowPlaces, Shows, ChosenAs}
+use Rattle.source.proofs.CountLaws.{with-code-0, without-code-0}
 
 -- "Height 1 to 32."
 module _ (s : List ℕ) (h : Header) (count : ℕ) (codes : List ℤ) (starts widths places : List ℕ) (held : FontHeld s h count codes starts widths places) where
@@ -55,17 +58,17 @@ module _ (s : List ℕ) (h : Header) (count : ℕ) (codes : List ℤ) (starts wi
           like = record { width = refl; cells = λ r k l m. ap (λ (q : ℕ). getD s (q + k) 0) (p .at r l) };
         }
 
-    font-chosen : (at : List ℕ) → RowPlaces s (e .start) (h .height) at → ChosenAs s at (h .height) (chosen.Character (e .width)) (fontSource s (held .characters) c)
+    font-chosen : (at : List ℕ) → RowPlaces s (e .start) (h .height) at → ChosenAs s at (h .height) (chosen.Character (e .width) (sameCode (e .code) c)) (fontSource s (held .characters) c)
     unfolding fontSource
-    font-chosen at p = subst (λ (x : Use). ChosenAs s at (h .height) (chosen.Character (e .width)) (choiceOf s c x)) u (go (sameCode (e .code) c))
+    font-chosen at p = go (sameCode (e .code) c) refl
       where
-        go : (b : Bool) → ChosenAs s at (h .height) (chosen.Character (e .width)) (cond b (found (characterOf s e)) (stoodIn (characterOf s e)))
-        go true = font-shows at p
-        go false = font-shows at p
+        go : (b : Bool) → sameCode (e .code) c ≡ b → ChosenAs s at (h .height) (chosen.Character (e .width) b) (choiceOf s (lookedUp c (held .characters)))
+        go true q = rw (own-found c (held .characters) e (sym u) q) (font-shows at p)
+        go false q = rw (other-stood-in c (held .characters) e (sym u) q) (font-shows at p)
 
   font-nothing : (c : Code) → Nothing ≡ used c (held .characters) → (at : List ℕ) → ChosenAs s at (h .height) chosen.Nothing (fontSource s (held .characters) c)
   unfolding fontSource
-  font-nothing c u at = subst (λ (x : Use). ChosenAs s at (h .height) chosen.Nothing (choiceOf s c x)) u tt
+  font-nothing c u at = rw (unused-nothing c (held .characters) (sym u)) tt
 
 -- The same of every source that is given.
 module _ (source : Source) (s : List ℕ) (height count : ℕ) (codes : List ℤ) (starts widths places : List ℕ) where
@@ -89,8 +92,15 @@ module _ (source : Source) (s : List ℕ) (height count : ℕ) (codes : List ℤ
     pub given-marked : Given → (r : ℕ) → r < height → after r s (x .start) + x .width < lineEnd s (after r s (x .start))
     given-marked (of-font h held e f) = rw e (font-marked s h count codes starts widths places held c x (looked (held .characters) (held .count) (held .lists)))
 
-    pub given-chosen : (at : List ℕ) → RowPlaces s (x .start) height at → Given → ChosenAs s at height (chosen.Character (x .width)) (source c)
+    pub given-chosen : (at : List ℕ) → RowPlaces s (x .start) height at → Given → ChosenAs s at height (chosen.Character (x .width) (sameCode (x .code) c)) (source c)
     given-chosen at p (of-font h held e f) = rw (e, f) (font-chosen s h count codes starts widths places held c x (looked (held .characters) (held .count) (held .lists)) at (rw e at p))
 
   pub given-nothing : (c : Code) → Looked c Nothing → (at : List ℕ) → Given → ChosenAs s at height chosen.Nothing (source c)
   given-nothing c looked at (of-font h held e f) = rw (e, f) (font-nothing s h count codes starts widths places held c (looked (held .characters) (held .count) (held .lists)) at)
+
+  -- a source that has a code 0 leaves nothing out, and one that has none stands in for nothing
+  pub given-stands-in : (x : Entry) → Looked (code (pos 0)) (Used x) → Given → (cs : List Code) → howMany isNothing source cs ≡ 0
+  given-stands-in x looked (of-font h held e f) cs = rw f (with-code-0 s (held .characters) x (sym (looked (held .characters) (held .count) (held .lists) ∙ used-zero (held .characters))) cs)
+
+  pub given-leaves-out : Looked (code (pos 0)) Nothing → Given → (cs : List Code) → howMany isStoodIn source cs ≡ 0
+  given-leaves-out looked (of-font h held e f) cs = rw f (without-code-0 s (held .characters) (sym (looked (held .characters) (held .count) (held .lists) ∙ used-zero (held .characters))) cs)

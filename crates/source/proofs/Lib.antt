@@ -1,4 +1,5 @@
 -- The laws of sources.
 pub mod MarkLaws
+pub mod CountLaws
 pub mod CharacterLaws
 pub mod HeldLaws

@@ -1,17 +1,15 @@
 -- Where the characters of a drawing come from: for each code, which character it is.
 -- Assumes nothing.
 use Prim.Native.Nat.{ℕ, _+_}
-use mathlib.Core.Bool.{cond}
 use mathlib.Core.List.{List}
 use lib.ListN.{getD}
 use Rattle.subchars.specs.declared.Code.{Code}
 use Rattle.join.specs.Join.{Block}
 use Rattle.lines.specs.Lines.{after}
 use Rattle.chars.specs.declared.Entry.{Entry}
-use Rattle.chars.specs.Codes.{sameCode}
-use Rattle.reader.specs.declared.Use.{Use}
-use Rattle.reader.specs.declared.Use.the-variants.{Used, Nothing}
-use Rattle.reader.specs.Reader.{used}
+use Rattle.reader.specs.declared.LookedUp.{LookedUp}
+use Rattle.reader.specs.declared.LookedUp.the-variants.{Found, StoodIn, Nothing}
+use Rattle.reader.specs.Reader.{lookedUp}
 
 -- A code's own character, with its width and rows; the one that stands in for it; or nothing.
 pub data Choice : Type 0 where
@@ -27,9 +25,10 @@ abbrev pub characterOf : List ℕ → Entry → Block
 characterOf s e = record { width = e .width; cells = λ r k. getD s (after r s (e .start) + k) 0 }
 
 -- "When codes repeat, the last is used. Otherwise the character with code 0 stands in; if there is none, nothing is drawn." The font's bytes are s.
-abbrev pub choiceOf : List ℕ → Code → Use → Choice
-choiceOf s c (Used e) = cond (sameCode (e .code) c) (found (characterOf s e)) (stoodIn (characterOf s e))
-choiceOf s c Nothing = nothing
+abbrev pub choiceOf : List ℕ → LookedUp → Choice
+choiceOf s (Found e) = found (characterOf s e)
+choiceOf s (StoodIn e) = stoodIn (characterOf s e)
+choiceOf s Nothing = nothing
 
 unfoldable pub fontSource : List ℕ → List Entry → Source
-fontSource s es c = choiceOf s c (used c es)
+fontSource s es c = choiceOf s (lookedUp c es)

@@ -2,6 +2,7 @@
 -- Assumes nothing.
 use mathlib.Core.Path.{_≡_}
 use Prim.Native.Nat.{ℕ, _+_, _<_, _≤_}
+use mathlib.Core.Bool.{true, false}
 use mathlib.Core.List.{List}
 use lib.ListN.{length, getD}
 use Rattle.ground.specs.Limits.{maxFontLength}
@@ -31,9 +32,12 @@ pub record Shows (s starts : List ℕ) (w h : ℕ) (character : Block) : Type 0 
 
 -- What was chosen is what the source has for the code.
 abbrev pub ChosenAs : List ℕ → List ℕ → ℕ → Chosen → Choice → Type 0
-ChosenAs s starts h (Character w) (found b) = Shows s starts w h b
-ChosenAs s starts h (Character w) (stoodIn b) = Shows s starts w h b
-ChosenAs s starts h (Character w) nothing = ⊥
+ChosenAs s starts h (Character w true) (found b) = Shows s starts w h b
+ChosenAs s starts h (Character w true) (stoodIn b) = ⊥
+ChosenAs s starts h (Character w true) nothing = ⊥
+ChosenAs s starts h (Character w false) (found b) = ⊥
+ChosenAs s starts h (Character w false) (stoodIn b) = Shows s starts w h b
+ChosenAs s starts h (Character w false) nothing = ⊥
 ChosenAs s starts h Nothing (found b) = ⊥
 ChosenAs s starts h Nothing (stoodIn b) = ⊥
 ChosenAs s starts h Nothing nothing = Unit

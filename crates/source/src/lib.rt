@@ -7,20 +7,71 @@ use reader::Use;
 use subchars::Code;
 ghost use mathlib.Core.Path.{_≡_};
 ghost use mathlib.Core.Bool.{true};
-ghost use Prim.Native.Nat.{ℕ, _+_, _<_, _≤_};
+ghost use mathlib.Core.List.{List};
+ghost use Prim.Native.Nat.{ℕ, _+_, _^_, _<_, _≤_};
 ghost use lib.ListN.{length};
 ghost use Rattle.ground.specs.Limits.{maxHeight, maxCharacters};
 ghost use Rattle.lines.specs.Lines.{lineEnd, nextStart, after};
+ghost use Rattle.subchars.specs.declared.Code.{Code};
 ghost use Rattle.index.specs.Index.{CharacterRoom};
 ghost use Rattle.index.specs.Latest.{smallCodes};
-ghost use Rattle.source.specs.Source.{Source};
+ghost use Rattle.source.specs.Source.{Choice, Source};
+ghost use Rattle.source.specs.Counting.{isMissing, one, howMany, countsOf};
 ghost use Rattle.source.specs.Held.{FontHeldBy, Gives};
 ghost use Rattle.source.specs.Steps.{Standing, RowPlaces, ChosenAs};
 
-// What is drawn for a code: a character of the given width, or nothing.
+// What is drawn for a code: a character of the given width, which is the code's own or stands in for it; or nothing.
 pub enum Chosen {
-    Character(usize),
+    Character { width: usize, own: bool },
     Nothing,
+}
+
+// How many codes of a text were stood in, and how many drew nothing.
+pub struct Counts {
+    pub stood_in: usize,
+    pub nothing_drawn: usize,
+}
+
+// How many codes of a text are not in the source, with one code more.
+pub fn count_missing(missing: usize, chosen: Chosen) -> usize
+    requires { ⌜ missing < 2 ^ 63 ⌝ }
+    ensures { λ r. ⌜ ((s starts : List ℕ) (h : ℕ) (x : Choice) → ChosenAs s starts h chosen x → r ≡ missing + one (isMissing x)) ⌝ }
+{
+    match chosen {
+        Chosen::Character { width: _, own } => {
+            if own {
+                return missing;
+            }
+            missing + 1
+        }
+        Chosen::Nothing => missing + 1,
+    }
+}
+
+// The counts of a text of which so many codes are not in the source: it stands in for all of them, or for none.
+pub fn counts_of(
+    missing: usize,
+    font: &[u8],
+    height: usize,
+    count: usize,
+    codes: &[i32],
+    starts: &[usize],
+    widths: &[usize],
+    places: &[usize],
+) -> Counts
+    requires { ⌜ ((source : Source) × Gives source (now font) height count (now codes) (now starts) (now widths) (now places)) ⌝ }
+    ensures { λ r. ⌜ ((source : Source) → Gives source (now (font .entry)) height count (now (codes .entry)) (now (starts .entry)) (now (widths .entry)) (now (places .entry)) → (text : List Code) → missing ≡ howMany isMissing source text → r ≡ countsOf source text) ⌝ }
+{
+    match reader::find_known(codes, starts, widths, count, places, Code(0)) {
+        Use::Used(_) => Counts {
+            stood_in: missing,
+            nothing_drawn: 0,
+        },
+        Use::Nothing => Counts {
+            stood_in: 0,
+            nothing_drawn: missing,
+        },
+    }
 }
 
 // Whether an LF stands directly behind a byte of a line: so most rows of a font end, by one endmark.
@@ -90,8 +141,9 @@ pub fn choose(
         Use::Used(entry) => {
             let start = entry.start;
             let width = entry.width;
+            let own = chars::same_code(entry.code, code);
             find_rows(font, start, width, height, found);
-            Chosen::Character(width)
+            Chosen::Character { width, own }
         }
         Use::Nothing => Chosen::Nothing,
     }

@@ -26,8 +26,10 @@ use Rattle.stack.specs.declared.StackAnswer.the-variants.{Stacked, Refused}
 use Rattle.stack.specs.Stack.{Stack, stacked}
 use Rattle.stack.specs.StackCall.{StackTold, stackTells, noStack, fitTold}
 use Rattle.stack.proofs.Demand.{overlap-smaller}
-use Rattle.drawing.specs.Drawing.{modeOf, fontLine, linedBy, linedOf, unlined}
-use Rattle.twolines.specs.TwoLines.{verticalOf, TwoLines, twoLines, noLines, linesOf, drawLines, linesSize, linesTold}
+use Rattle.source.specs.declared.Counts.{Counts}
+use Rattle.source.specs.Counting.{noCounts}
+use Rattle.drawing.specs.Drawing.{modeOf, fontLine, fontCounts, linedBy, linedOf, unlined}
+use Rattle.twolines.specs.TwoLines.{verticalOf, TwoLines, twoLines, noLines, bothCounts, linesOf, drawLines, linesSize, linesTold, linesCounts}
 use Rattle.twolines.proofs.LinesLaws.{upper-refused, upper-long, lower-long, both-lined, lines-small, lines-enough}
 
 module _ (size : ℕ) (s control upper lower : List ℕ) (room : ℕ) where
@@ -48,6 +50,10 @@ module _ (size : ℕ) (s control upper lower : List ℕ) (room : ℕ) where
   -- then stacked by its vertical layout."
   abbrev pub stackBy : FilesRead → Stack
   stackBy x = stacked (verticalOf (x .header .«full_layout»)) (x .header .hardblank .0) (x .header .height) (lineBy x upper) (x .header .height) (lineBy x lower)
+
+  -- The counts over both texts.
+  abbrev pub countsBy : FilesRead → Counts
+  countsBy x = bothCounts (fontCounts s (x .characters) (x .commands) (x .stages) upper) (fontCounts s (x .characters) (x .commands) (x .stages) lower)
 
   -- Neither 15 nor 16.
   pub record LinesFit (x : FilesRead) : Type 0 where
@@ -98,11 +104,11 @@ module _ (size : ℕ) (s control upper lower : List ℕ) (room : ℕ) where
     abbrev wide : Bool
     wide = ltb maxLineWidth (lineBy x upper .width) || ltb maxLineWidth (lineBy x lower .width)
 
-    by-width : length upper ≤ maxText → length lower ≤ maxText → (t : Bool) → wide ≡ t → both ≡ cond t (noLines (refusal lineTooWide 0)) (twoLines (stackBy x))
+    by-width : length upper ≤ maxText → length lower ≤ maxText → (t : Bool) → wide ≡ t → both ≡ cond t (noLines (refusal lineTooWide 0)) (twoLines (stackBy x) (countsBy x))
     unfolding modeOf
     by-width u v t e =
         enough ∙ both-lined s control upper lower (x .header) (x .characters) (x .commands) (x .stages) (x .font-read) (x .control-read) u v
-        ∙ ap (λ (b : Bool). cond b (noLines (refusal lineTooWide 0)) (twoLines (stackBy x))) e
+        ∙ ap (λ (b : Bool). cond b (noLines (refusal lineTooWide 0)) (twoLines (stackBy x) (countsBy x))) e
 
     one-wide : (maxLineWidth < lineBy x upper .width) ⊎ (maxLineWidth < lineBy x lower .width) → wide ≡ true
     one-wide (inl u) = or-left (ltb maxLineWidth (lineBy x upper .width)) (ltb maxLineWidth (lineBy x lower .width)) (lt-ltb maxLineWidth (lineBy x upper .width) u)
@@ -116,7 +122,7 @@ module _ (size : ℕ) (s control upper lower : List ℕ) (room : ℕ) where
     unfolding stacked
     few-rows = omega (arith, font-high .1)
 
-    pub is-stacked : LinesFit x → both ≡ twoLines (stackBy x)
+    pub is-stacked : LinesFit x → both ≡ twoLines (stackBy x) (countsBy x)
     is-stacked f =
         by-width (f .upper-short) (f .lower-short) false
         (ap₂ _||_ (le-ltb maxLineWidth (lineBy x upper .width) (f .upper-narrow)) (le-ltb maxLineWidth (lineBy x lower .width) (f .lower-narrow)))
@@ -221,6 +227,23 @@ module _ (size : ℕ) (s control upper lower : List ℕ) (room : ℕ) where
       go _ (line-too-wide x u v w) e = absurd (true≢false e)
       go _ (output-small x f m) e = absurd (true≢false e)
       go _ (stacks x f m) e = record { files = x; fit = f; room-enough = m; told = refl }
+
+  -- 02, Q-2: the counts over both texts beside a success; "a refusal tells 0 and 0".
+  pub counts-told : (x : FilesRead) → LinesFit x → linesSize (stackBy x) ≤ room → linesCounts both room ≡ countsBy x
+  unfolding linesCounts linesTold
+  counts-told x f m =
+      ap (λ (t : TwoLines). linesCounts t room) (is-stacked x f) ∙
+      ap (λ (t : StackTold). cond (t .refused) noCounts (countsBy x)) (enough-room x m)
+
+  pub counts-refused : answer .refused ≡ true → linesCounts both room ≡ noCounts
+  unfolding linesCounts
+  counts-refused e = go both refl
+    where
+      go : (t : TwoLines) → both ≡ t → linesCounts both room ≡ noCounts
+      go (noLines r) p = ap (λ (t : TwoLines). linesCounts t room) p
+      go (twoLines s n) p =
+          ap (λ (t : TwoLines). linesCounts t room) p ∙
+          ap (λ (b : Bool). cond b noCounts n) (sym (ap (λ (t : TwoLines). linesTold t room .refused) p) ∙ e)
 
   -- "18 cannot come."
   pub never-18 : answer .number ≡ stackTooHigh → ⊥

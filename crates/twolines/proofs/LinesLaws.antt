@@ -16,13 +16,14 @@ use Rattle.chars.specs.declared.Entry.{Entry}
 use Rattle.font.specs.Font as font
 use Rattle.flc.specs.declared.Command.{Command}
 use Rattle.flc.specs.Control as flc
-use Rattle.stack.specs.declared.StackAnswer.{StackAnswer}
-use Rattle.drawing.specs.Drawing.{modeOf, fontLine, Lined, lined, unlined, linedOf}
+use Rattle.drawing.specs.Drawing.{textCodes, modeOf, Lined, linedText, unlined, linedOf}
+use Rattle.source.specs.Source.{fontSource}
 use Rattle.drawing.proofs.OutputLaws.{text-long, text-lined}
+use Rattle.twolines.specs.declared.LinesAnswer.{LinesAnswer}
 use Rattle.twolines.specs.TwoLines.{verticalOf, verticalBy, TwoLines, noLines, closedUp, linesOf, drawLines, LinesOut}
 
 -- what is known of lines is known of all that they are
-pub lines-as : (t u : TwoLines) (room : ℕ) (r : StackAnswer) (out : List ℕ) → t ≡ u → LinesOut u room r out → LinesOut t room r out
+pub lines-as : (t u : TwoLines) (room : ℕ) (r : LinesAnswer) (out : List ℕ) → t ≡ u → LinesOut u room r out → LinesOut t room r out
 lines-as t u room r out e p = subst (λ (x : TwoLines). LinesOut x room r out) (sym e) p
 
 module _ (s control upper lower : List ℕ) where
@@ -40,7 +41,11 @@ module _ (s control upper lower : List ℕ) where
     upper-long u = upper-refused (refusal textTooLong 0) (text-long s control upper h es cs k font-said control-said u)
 
     module _ (fits : length upper ≤ maxText) where
-      first : linedOf s control upper ≡ lined (modeOf h) (h .height) (fontLine s h es cs k upper)
+      -- the line of a text, and its counts
+      abbrev linedBy : List ℕ → Lined
+      linedBy text = linedText (modeOf h) (h .height) (fontSource s es) (textCodes cs k text)
+
+      first : linedOf s control upper ≡ linedBy upper
       first = text-lined s control upper h es cs k font-said control-said fits
 
       pub lower-long : maxText < length lower → linesOf s control upper lower ≡ noLines (refusal textTooLong 0)
@@ -48,11 +53,11 @@ module _ (s control upper lower : List ℕ) where
       lower-long u = ap₂ (closedUp vertical) first (text-long s control lower h es cs k font-said control-said u)
 
       pub both-lined : length lower ≤ maxText →
-          linesOf s control upper lower ≡ closedUp (verticalOf (h .«full_layout»)) (lined (modeOf h) (h .height) (fontLine s h es cs k upper)) (lined (modeOf h) (h .height) (fontLine s h es cs k lower))
+          linesOf s control upper lower ≡ closedUp (verticalOf (h .«full_layout»)) (linedBy upper) (linedBy lower)
       unfolding linesOf
       both-lined u =
           ap₂ (closedUp vertical) first (text-lined s control lower h es cs k font-said control-said u)
-          ∙ ap (λ (f : font.FontReading). closedUp (verticalBy f) (lined (modeOf h) (h .height) (fontLine s h es cs k upper)) (lined (modeOf h) (h .height) (fontLine s h es cs k lower))) font-said
+          ∙ ap (λ (f : font.FontReading). closedUp (verticalBy f) (linedBy upper) (linedBy lower)) font-said
 
   module _ (size : ℕ) where
     by-size : (b : Bool) → ltb size minStackedScratch ≡ b → drawLines size s control upper lower ≡ cond b (noLines (refusal areaTooSmall 0)) (linesOf s control upper lower)

@@ -1,4 +1,5 @@
 // Two lines of text drawn by one font, one above the other.
+use drawing::DrawnText;
 use drawing::Files;
 use ground::limits;
 use ground::refusals;
@@ -6,8 +7,9 @@ use ground::refusals::Refusal;
 use header::Given;
 use header::Header;
 use index::latest;
+use source::Counts;
 use stack::Placed;
-pub use stack::StackAnswer;
+use stack::StackAnswer;
 use stack::stacking;
 use subchars::Direction;
 use subchars::Mode;
@@ -17,21 +19,33 @@ ghost use mathlib.Core.List.{List};
 ghost use Prim.Native.Nat.{ℕ, _≤_};
 ghost use lib.ListN.{length, take, drop};
 ghost use Rattle.ground.specs.Area.{zeros};
-ghost use Rattle.ground.specs.Limits.{maxLineWidth, maxHeight, minScratch, minStackedScratch};
-ghost use Rattle.join.specs.Join.{Block};
+ghost use Rattle.ground.specs.Limits.{maxLineWidth, maxHeight, maxText, minScratch, minStackedScratch};
 ghost use Rattle.figure.specs.Scratch.{lineStart};
 ghost use Rattle.flc.specs.Passing.{ControlHeld};
+ghost use Rattle.subchars.specs.declared.Code.{Code};
+ghost use Rattle.subchars.specs.declared.Mode.{Mode};
 ghost use Rattle.source.specs.Source.{Source};
 ghost use Rattle.source.specs.Held.{FontHeld, Gives};
-ghost use Rattle.drawing.specs.Drawing.{textCodes, lineOf, Lined};
+ghost use Rattle.drawing.specs.Drawing.{textCodes, linedText};
 ghost use Rattle.drawing.specs.Held.{FilesHeld};
-ghost use Rattle.drawing.specs.Steps.{Reached};
-ghost use Rattle.twolines.specs.TwoLines.{verticalOf, TwoLines, closedUp, linesOf, drawLines, LinesOut};
+ghost use Rattle.twolines.specs.Steps.{BothDrawn, BothCounted, countsBeside};
+ghost use Rattle.twolines.specs.TwoLines.{verticalOf, TwoLines, closedUp, linesOf, drawLines, stackPart, countsPart, LinesOut};
 
-// How wide two lines are.
-pub struct Widths {
-    pub upper: usize,
-    pub lower: usize,
+// What drawing two texts answers: at which overlap the lines are closed up, how high and wide both are, and the counts over both texts; or a refusal.
+pub enum LinesAnswer {
+    Drawn {
+        overlap: usize,
+        height: usize,
+        width: usize,
+        counts: Counts,
+    },
+    Refused(Refusal),
+}
+
+// Two texts that were drawn.
+pub struct DrawnTexts {
+    pub upper: DrawnText,
+    pub lower: DrawnText,
 }
 
 // The vertical layout of a header: full height where Full_Layout is absent.
@@ -45,11 +59,11 @@ fn vertical_of(given: Given) -> VerticalLayout
 }
 
 // A refusal, with zeros all through the output.
-fn refuse(number: usize, place: usize, out: &mut [u8]) -> StackAnswer
+fn refuse(number: usize, place: usize, out: &mut [u8]) -> LinesAnswer
     ensures { λ r. ⌜ LinesOut (TwoLines.noLines (record { number = number; place = place })) (length (now (out .entry))) r (now (out .exit)) ⌝ }
 {
     ground::zero_from(out, 0);
-    StackAnswer::Refused(Refusal { number, place })
+    LinesAnswer::Refused(Refusal { number, place })
 }
 
 // Where a drawn line w wide lies in its area.
@@ -65,32 +79,55 @@ fn line_place(direction: Direction, w: usize, height: usize) -> Placed
     }
 }
 
-// Puts out the two lines that the halves of the scratch hold: 16 for either, then 9.
+// The counts beside the answer of stacking; none beside a refusal.
+fn with_counts(counts: Counts, answer: StackAnswer) -> LinesAnswer
+    ensures { λ r. ⌜ (stackPart r ≡ answer) × (countsPart r ≡ countsBeside counts answer) ⌝ }
+{
+    match answer {
+        StackAnswer::Stacked {
+            overlap,
+            height,
+            width,
+        } => LinesAnswer::Drawn {
+            overlap,
+            height,
+            width,
+            counts,
+        },
+        StackAnswer::Refused(r) => LinesAnswer::Refused(r),
+    }
+}
+
+// Puts out the two lines that the halves of the scratch hold, with the counts over both: 16 for either, then 9.
 fn put_lines(
     out: &mut [u8],
     scratch: &[u8],
-    widths: Widths,
+    drawn: DrawnTexts,
+    counts: Counts,
     mode: Mode,
     vertical: VerticalLayout,
     height: usize,
-) -> StackAnswer
+) -> LinesAnswer
     requires { ⌜ (1 ≤ height) × (height ≤ maxHeight) × (minStackedScratch ≤ length (now scratch)) ⌝ }
-    ensures { λ r. ⌜ ((a b : Block) → Reached mode height maxLineWidth (widths .upper) (take minScratch (now (scratch .entry))) a → Reached mode height maxLineWidth (widths .lower) (drop minScratch (now (scratch .entry))) b → LinesOut (closedUp vertical (Lined.lined mode height a) (Lined.lined mode height b)) (length (now (out .entry))) r (now (out .exit))) ⌝ }
+    ensures { λ r. ⌜ ((source : Source) (us ls : List Code) → BothDrawn mode height source us ls drawn (now (scratch .entry)) → BothCounted source us ls drawn counts → LinesOut (closedUp vertical (linedText mode height source us) (linedText mode height source ls)) (length (now (out .entry))) r (now (out .exit))) ⌝ }
 {
-    if limits::MAX_LINE_WIDTH < widths.upper {
+    let a = drawn.upper;
+    let b = drawn.lower;
+    if limits::MAX_LINE_WIDTH < a.width {
         return refuse(refusals::LINE_TOO_WIDE, 0, out);
     }
-    if limits::MAX_LINE_WIDTH < widths.lower {
+    if limits::MAX_LINE_WIDTH < b.width {
         return refuse(refusals::LINE_TOO_WIDE, 0, out);
     }
     let direction = mode.direction;
     let hardblank = mode.hardblank;
-    let u = line_place(direction, widths.upper, height);
-    let l = line_place(direction, widths.lower, height);
+    let u = line_place(direction, a.width, height);
+    let l = line_place(direction, b.width, height);
     let half = limits::MIN_SCRATCH;
     let upper = &scratch[..half];
     let lower = &scratch[half..];
-    stacking::put_stack(out, 1, vertical, hardblank, upper, u, lower, l)
+    let answer = stacking::put_stack(out, 1, vertical, hardblank, upper, u, lower, l);
+    with_counts(counts, answer)
 }
 
 // Draws two texts, each into its half of the scratch.
@@ -111,15 +148,15 @@ fn join_both(
     firsts: &[i32],
     lasts: &[i32],
     news: &[i32],
-) -> Widths
+) -> DrawnTexts
     requires { ⌜ ((source : Source) × Gives source (now font) height count (now codes) (now starts) (now widths) (now places)) ⌝ }
     requires { ⌜ ((control : List ℕ) × ControlHeld control commands (now stages) (now firsts) (now lasts) (now news)) ⌝ }
     requires { ⌜ minStackedScratch ≤ length (now scratch) ⌝ }
-    ensures { λ w. ⌜ ((source : Source) (given : Gives source (now (font .entry)) height count (now (codes .entry)) (now (starts .entry)) (now (widths .entry)) (now (places .entry))) (control : List ℕ) (held : ControlHeld control commands (now (stages .entry)) (now (firsts .entry)) (now (lasts .entry)) (now (news .entry))) → Reached mode height maxLineWidth (w .upper) (take minScratch (now (scratch .exit))) (lineOf mode height source (textCodes (held .commands) (held .count) (now (upper .entry)))) × Reached mode height maxLineWidth (w .lower) (drop minScratch (now (scratch .exit))) (lineOf mode height source (textCodes (held .commands) (held .count) (now (lower .entry))))) ⌝ }
+    ensures { λ d. ⌜ ((source : Source) (given : Gives source (now (font .entry)) height count (now (codes .entry)) (now (starts .entry)) (now (widths .entry)) (now (places .entry))) (control : List ℕ) (held : ControlHeld control commands (now (stages .entry)) (now (firsts .entry)) (now (lasts .entry)) (now (news .entry))) → BothDrawn mode height source (textCodes (held .commands) (held .count) (now (upper .entry))) (textCodes (held .commands) (held .count) (now (lower .entry))) d (now (scratch .exit))) ⌝ }
 {
     let half = limits::MIN_SCRATCH;
     let most = limits::MAX_LINE_WIDTH;
-    let n = drawing::join_text(
+    let first = drawing::join_text(
         &mut scratch[..half],
         upper,
         most,
@@ -137,7 +174,7 @@ fn join_both(
         lasts,
         news,
     );
-    let m = drawing::join_text(
+    let second = drawing::join_text(
         &mut scratch[half..],
         lower,
         most,
@@ -155,7 +192,31 @@ fn join_both(
         lasts,
         news,
     );
-    Widths { upper: n, lower: m }
+    DrawnTexts {
+        upper: first,
+        lower: second,
+    }
+}
+
+// The counts over two texts that were drawn.
+fn count_both(
+    drawn: DrawnTexts,
+    font: &[u8],
+    height: usize,
+    count: usize,
+    codes: &[i32],
+    starts: &[usize],
+    widths: &[usize],
+    places: &[usize],
+) -> Counts
+    requires { ⌜ ((source : Source) × Gives source (now font) height count (now codes) (now starts) (now widths) (now places)) ⌝ }
+    requires { ⌜ (drawn .upper .missing ≤ maxText) × (drawn .lower .missing ≤ maxText) ⌝ }
+    ensures { λ n. ⌜ ((source : Source) → Gives source (now (font .entry)) height count (now (codes .entry)) (now (starts .entry)) (now (widths .entry)) (now (places .entry)) → (mode : Mode) (us ls : List Code) (scratch : List ℕ) → BothDrawn mode height source us ls drawn scratch → BothCounted source us ls drawn n) ⌝ }
+{
+    let a = drawn.upper;
+    let b = drawn.lower;
+    let missing = a.missing + b.missing;
+    source::counts_of(missing, font, height, count, codes, starts, widths, places)
 }
 
 // Draws two texts by a font and a control file that were read: 15 and 16 of either, then 9.
@@ -176,7 +237,7 @@ fn draw_texts(
     firsts: &[i32],
     lasts: &[i32],
     news: &[i32],
-) -> StackAnswer
+) -> LinesAnswer
     requires { ⌜ FontHeld (now font) header count (now codes) (now starts) (now widths) (now places) ⌝ }
     requires { ⌜ ((control : List ℕ) × ControlHeld control commands (now stages) (now firsts) (now lasts) (now news)) ⌝ }
     requires { ⌜ minStackedScratch ≤ length (now scratch) ⌝ }
@@ -209,7 +270,8 @@ fn draw_texts(
         lasts,
         news,
     );
-    put_lines(out, scratch, drawn, mode, vertical_of(full), height)
+    let counts = count_both(drawn, font, height, count, codes, starts, widths, places);
+    put_lines(out, scratch, drawn, counts, mode, vertical_of(full), height)
 }
 
 // Draws two texts by what reading the files gave; the lists hold it.
@@ -228,7 +290,7 @@ fn draw_files(
     firsts: &[i32],
     lasts: &[i32],
     news: &[i32],
-) -> StackAnswer
+) -> LinesAnswer
     requires { ⌜ ((control : List ℕ) × FilesHeld (now font) control files (now codes) (now starts) (now widths) (now places) (now stages) (now firsts) (now lasts) (now news)) ⌝ }
     requires { ⌜ minStackedScratch ≤ length (now scratch) ⌝ }
     ensures { λ r. ⌜ ((control : List ℕ) → FilesHeld (now (font .entry)) control files (now (codes .entry)) (now (starts .entry)) (now (widths .entry)) (now (places .entry)) (now (stages .entry)) (now (firsts .entry)) (now (lasts .entry)) (now (news .entry)) → LinesOut (linesOf (now (font .entry)) control (now (upper .entry)) (now (lower .entry))) (length (now (out .entry))) r (now (out .exit))) ⌝ }
@@ -268,7 +330,7 @@ fn draw_once(
     lower: &[u8],
     font: &[u8],
     control: &[u8],
-) -> StackAnswer
+) -> LinesAnswer
     requires { ⌜ minStackedScratch ≤ length (now scratch) ⌝ }
     ensures { λ r. ⌜ LinesOut (linesOf (now (font .entry)) (now (control .entry)) (now (upper .entry)) (now (lower .entry))) (length (now (out .entry))) r (now (out .exit)) ⌝ }
 {
@@ -318,7 +380,7 @@ fn draw_tested(
     lower: &[u8],
     font: &[u8],
     control: &[u8],
-) -> StackAnswer
+) -> LinesAnswer
     ensures { λ r. ⌜ LinesOut (drawLines (length (now (scratch .entry))) (now (font .entry)) (now (control .entry)) (now (upper .entry)) (now (lower .entry))) (length (now (out .entry))) r (now (out .exit)) ⌝ }
 {
     if scratch.len() < limits::MIN_STACKED_SCRATCH {
@@ -336,7 +398,7 @@ pub fn draw_stacked(
     lower: &[u8],
     scratch: &mut [u8],
     out: &mut [u8],
-) -> StackAnswer
+) -> LinesAnswer
     ensures { λ r. ⌜ LinesOut (drawLines (length (now (scratch .entry))) (now (font .entry)) (now (control .entry)) (now (upper .entry)) (now (lower .entry))) (length (now (out .entry))) r (now (out .exit)) ⌝ }
     ensures { λ r. ⌜ now (scratch .exit) ≡ zeros (length (now (scratch .entry))) ⌝ }
 {

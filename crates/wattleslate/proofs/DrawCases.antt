@@ -3,7 +3,7 @@
 use mathlib.Core.Path.{_≡_, ap}
 use mathlib.Core.List.{List}
 use Prim.Native.Nat.{ℕ}
-use Rattle.figure.specs.declared.DrawAnswer.{DrawAnswer}
+use Rattle.drawing.specs.declared.DrawAnswer.{DrawAnswer}
 use Rattle.drawing.specs.Drawing.{drawLined, PutOut}
 use Rattle.wattleslate.specs.DrawCall.{drawTells, drawTold, drawOutput}
 

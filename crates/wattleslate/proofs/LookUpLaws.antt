@@ -1,6 +1,6 @@
--- What the call `look_up` answers, case by case: the font's refusals exactly, and otherwise the entry used or none.
+-- What the call `look_up` answers, case by case: the font's refusals exactly, and otherwise which of three it was.
 -- Assumes nothing.
-use mathlib.Core.Path.{_≡_, refl, ap, _∙_}
+use mathlib.Core.Path.{_≡_, refl, sym, ap, _∙_}
 use mathlib.Core.List.{List}
 use mathlib.Core.Logic.{_↔_}
 use Prim.Native.Nat.{ℕ}
@@ -10,49 +10,71 @@ use Rattle.subchars.specs.declared.Code.{Code}
 use Rattle.header.specs.declared.Header.{Header}
 use Rattle.chars.specs.declared.Entry.{Entry}
 use Rattle.font.specs.Font.{FontReading, says, refuses, reading}
+use Rattle.reader.specs.declared.LookedUp.{LookedUp}
+use Rattle.reader.specs.declared.LookedUp.the-variants as three
 use Rattle.reader.specs.declared.Use.{Use}
 use Rattle.reader.specs.declared.Use.the-variants as use-is
-use Rattle.reader.specs.Reader.{used}
+use Rattle.reader.specs.Reader.{used, lookedUp}
+use Rattle.reader.proofs.ThreeLaws.{unused-nothing}
 use Rattle.request.specs.declared.Sought.{Sought}
 use Rattle.request.specs.declared.Sought.the-variants as sought-is
 use Rattle.request.specs.Request.{inFont, sought}
-use Rattle.wattleslate.specs.declared.LookUpAnswer.the-variants.{Used, Nothing, Refused}
-use Rattle.wattleslate.specs.LookUpCall.{LookUpTold, lookUpTells, entryTold, toldBy, lookUpTold}
+use Rattle.wattleslate.specs.declared.LookUpAnswer.the-variants.{Looked, Refused}
+use Rattle.wattleslate.specs.LookUpCall.{lookUpTells, toldBy, lookUpTold}
 use Rattle.wattleslate.proofs.ToldApart.{look-up-apart}
 
--- The answer to what was sought.
-abbrev pub soughtTold : Sought → LookUpTold
-soughtTold (sought-is.Found height e) = lookUpTells (Used e)
-soughtTold sought-is.NoDrawing = lookUpTells Nothing
-soughtTold (sought-is.Unread q) = lookUpTells (Refused q)
-
-pub by-sought : (s : List ℕ) (c : Code) (x : Sought) → x ≡ sought c (reading s) → soughtTold x ≡ lookUpTold s c
-unfolding sought lookUpTold
-by-sought s c x p = ap soughtTold p ∙ go (reading s)
-  where
-    by : (height : ℕ) (u : Use) → soughtTold (inFont height u) ≡ entryTold u
-    by height (use-is.Used e) = refl
-    by height use-is.Nothing = refl
-
-    go : (m : FontReading) → soughtTold (sought c m) ≡ toldBy c m
-    go (says h es) = by (h .height) (used c es)
-    go (refuses q) = refl
-
+-- What was sought tells what the look-up answers.
 module _ (s : List ℕ) (c : Code) where
+  pub by-found : (height : ℕ) (e : Entry) (u : LookedUp) → ((es : List Entry) → used c es ≡ use-is.Used e → u ≡ lookedUp c es) → sought-is.Found height e ≡ sought c (reading s) → lookUpTells (Looked u) ≡ lookUpTold s c
+  unfolding sought lookUpTold
+  by-found height e u which p = go (reading s) p
+    where
+      by : (n : ℕ) (x : Use) → sought-is.Found height e ≡ inFont n x → x ≡ use-is.Used e
+      by n (use-is.Used d) q = let z : d ≡ e = cc in ap use-is.Used z
+      by n use-is.Nothing q = clash (cc)
+
+      go : (m : FontReading) → sought-is.Found height e ≡ sought c m → lookUpTells (Looked u) ≡ toldBy c m
+      go (says h es) q = ap (λ (x : LookedUp). lookUpTells (Looked x)) (which es (by (h .height) (used c es) q))
+      go (refuses r) q = clash (cc)
+
+  pub by-none : sought-is.NoDrawing ≡ sought c (reading s) → lookUpTells (Looked three.Nothing) ≡ lookUpTold s c
+  unfolding sought lookUpTold
+  by-none p = go (reading s) p
+    where
+      by : (n : ℕ) (x : Use) → sought-is.NoDrawing ≡ inFont n x → x ≡ use-is.Nothing
+      by n (use-is.Used d) q = clash (cc)
+      by n use-is.Nothing q = refl
+
+      go : (m : FontReading) → sought-is.NoDrawing ≡ sought c m → lookUpTells (Looked three.Nothing) ≡ toldBy c m
+      go (says h es) q = ap (λ (x : LookedUp). lookUpTells (Looked x)) (sym (unused-nothing c es (by (h .height) (used c es) q)))
+      go (refuses r) q = clash (cc)
+
+  pub by-unread : (r : Refusal) → sought-is.Unread r ≡ sought c (reading s) → lookUpTells (Refused r) ≡ lookUpTold s c
+  unfolding sought lookUpTold
+  by-unread r p = go (reading s) p
+    where
+      never : (n : ℕ) (x : Use) → sought-is.Unread r ≡ inFont n x → ⊥
+      never n (use-is.Used d) q = clash (cc)
+      never n use-is.Nothing q = clash (cc)
+
+      go : (m : FontReading) → sought-is.Unread r ≡ sought c m → lookUpTells (Refused r) ≡ toldBy c m
+      go (says h es) q = absurd (never (h .height) (used c es) q)
+      go (refuses d) q = let z : r ≡ d = cc in ap (λ (x : Refusal). lookUpTells (Refused x)) z
+
   -- a look-up is refused exactly as the font is
   pub look-up-refused : (q : Refusal) → lookUpTold s c ≡ lookUpTells (Refused q) ↔ reading s ≡ refuses q
   unfolding lookUpTold
   look-up-refused q = (λ e. go (reading s) refl e, λ m. ap (toldBy c) m)
     where
-      by : (u : Use) → entryTold u ≡ lookUpTells (Refused q) → reading s ≡ refuses q
-      by (use-is.Used e) p = let y = look-up-apart (Used e) (Refused q) p in clash (cc)
-      by use-is.Nothing p = let y = look-up-apart Nothing (Refused q) p in clash (cc)
-
       go : (m : FontReading) → reading s ≡ m → toldBy c m ≡ lookUpTells (Refused q) → reading s ≡ refuses q
-      go (says h es) m p = by (used c es) p
+      go (says h es) m p = let y = look-up-apart (Looked (lookedUp c es)) (Refused q) p in clash (cc)
       go (refuses r) m p = let y = look-up-apart (Refused r) (Refused q) p in let z : r ≡ q = cc in m ∙ ap refuses z
 
-  -- a font that is read has an answer for every code
-  pub look-up-read : (h : Header) (es : List Entry) → reading s ≡ says h es → lookUpTold s c ≡ entryTold (used c es)
+  -- it answers one of three exactly if the font is read and the entries say so
+  pub looked-exactly : (u : LookedUp) → lookUpTold s c ≡ lookUpTells (Looked u) ↔ ((h : Header) × (es : List Entry) × (reading s ≡ says h es) × (lookedUp c es ≡ u))
   unfolding lookUpTold
-  look-up-read h es m = ap (toldBy c) m
+  looked-exactly u = (λ e. go (reading s) refl e, λ x. ap (toldBy c) (x .2) ∙ ap (λ (v : LookedUp). lookUpTells (Looked v)) (x .3))
+    where
+      go : (m : FontReading) → reading s ≡ m → toldBy c m ≡ lookUpTells (Looked u) → (h : Header) × (es : List Entry) × (reading s ≡ says h es) × (lookedUp c es ≡ u)
+      go (says h es) m p = let y = look-up-apart (Looked (lookedUp c es)) (Looked u) p in let z : lookedUp c es ≡ u = cc in (h, es, m, z)
+      go (refuses r) m p = let y = look-up-apart (Refused r) (Looked u) p in clash (cc)

@@ -6,7 +6,7 @@
 use mathlib.Core.Path.{_≡_, refl, ap}
 use mathlib.Core.Bool.{Bool, true, false}
 use mathlib.Core.List.{List, [], _∷_, _++_, map}
-use mathlib.Core.Logic.{_⊎_, _↔_, Iff·trans}
+use mathlib.Core.Logic.{_⊎_, inl, inr, _↔_, Iff·trans}
 use mathlib.Core.Option.{some}
 use Prim.Native.Nat.{ℕ, suc, _+_, _-_, _*_, _≤_, _<_, min, max}
 use lib.IntN.{ℤ, pos, natAbs, _-ℤ_}
@@ -19,6 +19,7 @@ use Rattle.ground.specs.Limits.{maxFontLength, maxControlFile, maxText, maxLine
 use Rattle.ground.specs.Refusals.{refusal, fontTooLong, noSignature, badHardblank, badParameters, tooManyCharacters, areaTooSmall, controlFileTooLong, notACommand, badRanges, extendedCommand, tooManyCommands, textTooLong, lineTooWide, badShape, stackTooHigh, missingLine, badRow, badCodeTag}
 use Rattle.ground.specs.Runs.{run, all, begins}
 use Rattle.ground.specs.declared.refusals.Refusal.{Refusal}
+use Rattle.ground.proofs.Tests.{clash}
 use Rattle.subchars.specs.declared.Code.{Code}
 use Rattle.subchars.specs.declared.SubCharacter.{SubCharacter}
 use Rattle.subchars.specs.declared.Direction.{Direction}
@@ -61,9 +62,9 @@ use Rattle.stack.proofs.Filling as filling
 use Rattle.stack.proofs.Answers as stack-answers
 use Rattle.stack.proofs.Answers.{BadStack}
 use Rattle.stack.proofs.Bytes.{stacked-byte}
-use Rattle.figure.specs.declared.DrawAnswer.{DrawAnswer}
+use Rattle.drawing.specs.declared.DrawAnswer.{DrawAnswer}
 use Rattle.figure.specs.Line.{attached, empty, shown}
-use Rattle.figure.specs.declared.DrawAnswer.the-variants as draw-is
+use Rattle.drawing.specs.declared.DrawAnswer.the-variants as draw-is
 use Rattle.figure.proofs.Folding.{first-whole}
 use Rattle.join.specs.Writing.{Like}
 use Rattle.lines.specs.Lines.{TextLine, linesFrom, textAt}
@@ -92,8 +93,17 @@ use Rattle.font.proofs.Comes.{Comes, comments, character, first-row, more-rows}
 use Rattle.font.proofs.TableLaws as font-rows
 use Rattle.entries.specs.Filling.{fontReading, zeroEntry, indexOf}
 use Rattle.entries.proofs.RefusalLaws as index
+use Rattle.entries.specs.Finding.{entryTells, findTold}
+use Rattle.entries.proofs.ToldApart as entries
 use Rattle.reader.specs.declared.Use.the-variants.{Nothing}
-use Rattle.reader.specs.Reader.{used}
+use Rattle.reader.specs.declared.LookedUp.{LookedUp}
+use Rattle.reader.specs.declared.LookedUp.the-variants as three
+use Rattle.reader.specs.Reader.{used, lookedUp}
+use Rattle.reader.proofs.ThreeLaws as three-cases
+use Rattle.reader.proofs.ThreeLaws.{Has}
+use Rattle.source.specs.declared.Counts.{Counts}
+use Rattle.source.specs.Counting.{noCounts, counted, countsOf}
+use Rattle.source.proofs.CountLaws as counting
 use Rattle.commands.specs.declared.fields.Form.{Form}
 use Rattle.commands.specs.declared.fields.Form.the-variants.{Characters, Numbers}
 use Rattle.commands.specs.declared.fields.Codes.{Codes}
@@ -111,11 +121,11 @@ use Rattle.flc.proofs.TableLaws.{Reaches}
 use Rattle.flc.proofs.MappingLaws as mapping
 use Rattle.flc.proofs.MappingLaws.{NoneFits}
 use Rattle.source.specs.Source.{Source}
-use Rattle.drawing.specs.Drawing.{fontLine, lineOf, textCodes}
+use Rattle.drawing.specs.Drawing.{charactersOf, fontLine, fontCounts, lineOf, textCodes}
 use Rattle.drawing.specs.Steps.{withCharacter}
 use Rattle.drawing.proofs.Answers as drawing
 use Rattle.drawing.proofs.DrawingLaws as drawings
-use Rattle.twolines.specs.TwoLines.{verticalOf, verticalBy, TwoLines, drawLines, linesTold, linesOutput}
+use Rattle.twolines.specs.TwoLines.{verticalOf, verticalBy, TwoLines, bothCounts, drawLines, linesTold, linesCounts, linesOutput}
 use Rattle.twolines.proofs.Answers as line-answers
 use Rattle.twolines.proofs.TableLaws as line-rows
 use Rattle.twolines.proofs.Bytes as line-bytes
@@ -380,12 +390,12 @@ module _ (size : ℕ) (s control text : List ℕ) (room : ℕ) where
       (length text ≤ maxText) × (maxLineWidth < lineFor h es cs k .width))
   refusal-16-of-draw p = Iff·trans (draw-calls.told-is size s control text room _) (drawing.row-16 size s control text room p)
 
-  -- Otherwise "the answer gives the width".
-  draws-otherwise : (w : ℕ) →
-      Draws (draw-is.Drawn w) ↔
+  -- Otherwise "the answer gives the width", and 02, Q-2, the counts of the text.
+  draws-otherwise : (w : ℕ) (n : Counts) →
+      Draws (draw-is.Drawn w n) ↔
       ((h : Header) × (es : List Entry) × (cs : List Command) × (k : ℕ) × (FilesSay h es cs k) ×
-      (length text ≤ maxText) × (lineFor h es cs k .width ≤ maxLineWidth) × (h .height * (lineFor h es cs k .width + 1) ≤ room) × (w ≡ lineFor h es cs k .width))
-  draws-otherwise w = Iff·trans (draw-calls.told-is size s control text room _) (drawing.row-drawn size s control text room w)
+      (length text ≤ maxText) × (lineFor h es cs k .width ≤ maxLineWidth) × (h .height * (lineFor h es cs k .width + 1) ≤ room) × (w ≡ lineFor h es cs k .width) × (n ≡ fontCounts s es cs k text))
+  draws-otherwise w n = Iff·trans (draw-calls.told-is size s control text room _) (drawing.row-drawn size s control text room w n)
 
 -- "Join: 17, 16, 9."
 module _ (y : Mode) (h n : ℕ) (line : List ℕ) (m : ℕ) (character : List ℕ) (room : ℕ) where
@@ -974,3 +984,85 @@ module _ (size : ℕ) (s control upper lower : List ℕ) (room : ℕ) where
 
       draw-stacked-lf : (r : ℕ) → r < drawnStack .height → getD (linesOutput linesDrawn room) (r * (drawnStack .block .width + 1) + drawnStack .block .width) 0 ≡ byte "\n"
       draw-stacked-lf = line-bytes.output-lf size s control upper lower room (line-rows.files size s control upper lower room h es cs k say) (line-rows.fits size s control upper lower room h es cs k say fit) m
+
+-- ================================================================ 02, Q-2: tell me when a letter was replaced
+
+-- "The look-up must say which of three it was:
+module _ (c : Code) (es : List Entry) where
+  -- found as itself": exactly if some entry has the code,
+  found-exactly : ((e : Entry) × (lookedUp c es ≡ three.Found e)) ↔ Has (c .0) es
+  found-exactly = three-cases.found-exactly c es
+
+  -- "stood in by code 0": exactly if none has it and some entry has code 0,
+  stood-in-exactly : ((e : Entry) × (lookedUp c es ≡ three.StoodIn e)) ↔ ((Has (c .0) es → ⊥) × Has (pos 0) es)
+  stood-in-exactly = three-cases.stood-in-exactly c es
+
+  -- "or nothing": exactly if neither.
+  nothing-exactly : lookedUp c es ≡ three.Nothing ↔ ((Has (c .0) es → ⊥) × (Has (pos 0) es → ⊥))
+  nothing-exactly = three-cases.nothing-exactly c es
+
+  -- One of the three holds,
+  one-of-three : ((e : Entry) × (lookedUp c es ≡ three.Found e)) ⊎ (((e : Entry) × (lookedUp c es ≡ three.StoodIn e)) ⊎ (lookedUp c es ≡ three.Nothing))
+  one-of-three = go (lookedUp c es) refl
+    where
+      go : (u : LookedUp) → lookedUp c es ≡ u → ((e : Entry) × (lookedUp c es ≡ three.Found e)) ⊎ (((e : Entry) × (lookedUp c es ≡ three.StoodIn e)) ⊎ (lookedUp c es ≡ three.Nothing))
+      go (three.Found e) p = inl (e, p)
+      go (three.StoodIn e) p = inr (inl (e, p))
+      go three.Nothing p = inr (inr p)
+
+  -- and they exclude one another.
+  found-excludes-stood-in : (d e : Entry) → lookedUp c es ≡ three.Found d → lookedUp c es ≡ three.StoodIn e → ⊥
+  found-excludes-stood-in d e p q = clash (cc)
+
+  found-excludes-nothing : (d : Entry) → lookedUp c es ≡ three.Found d → lookedUp c es ≡ three.Nothing → ⊥
+  found-excludes-nothing d p q = clash (cc)
+
+  stood-in-excludes-nothing : (d : Entry) → lookedUp c es ≡ three.StoodIn d → lookedUp c es ≡ three.Nothing → ⊥
+  stood-in-excludes-nothing d p q = clash (cc)
+
+-- "A code 0 that the font has is found": none stands in for it.
+code-0-is-found : (es : List Entry) → Has (pos 0) es → (e : Entry) × (lookedUp (code (pos 0)) es ≡ three.Found e)
+code-0-is-found = three-cases.zero-found
+
+code-0-is-never-stood-in : (es : List Entry) (e : Entry) → lookedUp (code (pos 0)) es ≡ three.StoodIn e → ⊥
+code-0-is-never-stood-in = three-cases.zero-never-stood-in
+
+-- "Look-up answers found .., stood in .., nothing, or refused": one of three exactly if the font is read and its characters say so,
+look-up-of-a-font : (s : List ℕ) (c : Code) (u : LookedUp) → lookUpTold s c ≡ lookUpTells (look-up-is.Looked u) ↔ ((h : Header) × (es : List Entry) × (reading s ≡ says h es) × (lookedUp c es ≡ u))
+look-up-of-a-font = look-ups.looked-exactly
+
+-- "so does `find_in` over a lent index": of its first entries.
+look-up-in-an-index : (es : List Entry) (count : ℕ) (c : Code) (u : LookedUp) → findTold es count c ≡ entryTells u ↔ lookedUp c (take count es) ≡ u
+unfolding findTold
+look-up-in-an-index es count c u = (entries.entry-apart (lookedUp c (take count es)) u, λ e. ap entryTells e)
+
+-- "Drawing then returns how many text bytes are in the second and in the third group, by the definition of look-up": whatever gives the characters, and by
+-- any control file,
+module _ (source : Source) (cs : List Command) (k : ℕ) where
+  -- each text byte is counted by the code that it is mapped to,
+  counts-of-one-byte-more : (text : List ℕ) (b : ℕ) → countsOf source (textCodes cs k (text ++ (b ∷ []))) ≡ counted (source (mapStages cs 0 k (code (pos b)))) (countsOf source (textCodes cs k text))
+  counts-of-one-byte-more = drawings.one-byte-counted source cs k
+
+  -- and "the number of characters drawn, plus those that drew nothing, is the number of text bytes".
+  drawn-and-nothing-drawn : (text : List ℕ) → length (charactersOf source (textCodes cs k text)) + countsOf source (textCodes cs k text) .«nothing_drawn» ≡ length text
+  drawn-and-nothing-drawn = drawings.all-bytes source cs k
+
+-- Of a font's text at most one of the two counts is not 0.
+never-both-counts : (s : List ℕ) (es : List Entry) (cs : List Command) (k : ℕ) (text : List ℕ) → (fontCounts s es cs k text .«stood_in» ≡ 0) ⊎ (fontCounts s es cs k text .«nothing_drawn» ≡ 0)
+never-both-counts s es cs k text = counting.never-both s es (textCodes cs k text)
+
+-- "A refusal tells 0 and 0."
+module _ (size : ℕ) (s control : List ℕ) (room : ℕ) where
+  no-counts-after-a-refusal : (text : List ℕ) → drawTold size s control text room .refused ≡ true → (drawTold size s control text room .stoodIn ≡ 0) × (drawTold size s control text room .nothingDrawn ≡ 0)
+  no-counts-after-a-refusal text = draw-calls.refused-uncounted size s control text room
+
+  -- The same of two lines, which otherwise tell the counts over both texts.
+  module _ (upper lower : List ℕ) where
+    no-counts-after-a-refusal-of-two : linesTold (drawLines size s control upper lower) room .refused ≡ true → linesCounts (drawLines size s control upper lower) room ≡ noCounts
+    no-counts-after-a-refusal-of-two = line-answers.counts-refused size s control upper lower room
+
+    counts-over-both-texts :
+        (h : Header) (es : List Entry) (cs : List Command) (k : ℕ) (say : BothFilesSay size s control upper lower room h es cs k) (fit : BothLinesFit size s control upper lower room h es cs k) →
+        linesStacked size s control upper lower room h es cs k .height * (linesStacked size s control upper lower room h es cs k .block .width + 1) ≤ room →
+        linesCounts (drawLines size s control upper lower) room ≡ bothCounts (fontCounts s es cs k upper) (fontCounts s es cs k lower)
+    counts-over-both-texts h es cs k say fit = line-answers.counts-told size s control upper lower room (line-rows.files size s control upper lower room h es cs k say) (line-rows.fits size s control upper lower room h es cs k say fit)

@@ -2,8 +2,8 @@
 -- Assumes nothing.
 use mathlib.Core.Path.{_≡_, refl, ap, ap₂}
 use mathlib.Core.Bool.{true≢false, false≢true}
-use Rattle.figure.specs.declared.DrawAnswer.{DrawAnswer}
-use Rattle.figure.specs.declared.DrawAnswer.the-variants as draw-is
+use Rattle.drawing.specs.declared.DrawAnswer.{DrawAnswer}
+use Rattle.drawing.specs.declared.DrawAnswer.the-variants as draw-is
 use Rattle.flc.specs.declared.ControlAnswer.{ControlAnswer}
 use Rattle.flc.specs.declared.ControlAnswer.the-variants as control-is
 use Rattle.join.specs.declared.JoinAnswer.{JoinAnswer}
@@ -14,6 +14,7 @@ use Rattle.wattleslate.specs.declared.MapAnswer.{MapAnswer}
 use Rattle.wattleslate.specs.declared.MapAnswer.the-variants as map-is
 use Rattle.wattleslate.specs.declared.RowRefusal.{RowRefusal}
 use Rattle.wattleslate.specs.declared.RowRefusal.the-variants as row-is
+use Rattle.entries.proofs.ToldApart.{entry-apart}
 use Rattle.join.specs.JoinCall.{JoinTold, joinTells}
 use Rattle.wattleslate.specs.LookUpCall.{LookUpTold, lookUpTells}
 use Rattle.wattleslate.specs.RowCall.{RowTold, rowTells}
@@ -28,9 +29,9 @@ join-apart (join-is.Refused r) (join-is.Joined o w) e = absurd (true≢false (ap
 join-apart (join-is.Refused r) (join-is.Refused s) e = ap (λ (t : JoinTold). join-is.Refused (record { number = t .number; place = t .place })) e
 
 pub draw-apart : (r s : DrawAnswer) → drawTells r ≡ drawTells s → r ≡ s
-draw-apart (draw-is.Drawn w) (draw-is.Drawn v) e = ap (λ (t : DrawTold). draw-is.Drawn (t .width)) e
-draw-apart (draw-is.Drawn w) (draw-is.Refused r) e = absurd (false≢true (ap (λ (t : DrawTold). t .refused) e))
-draw-apart (draw-is.Refused r) (draw-is.Drawn w) e = absurd (true≢false (ap (λ (t : DrawTold). t .refused) e))
+draw-apart (draw-is.Drawn w m) (draw-is.Drawn v n) e = ap (λ (t : DrawTold). draw-is.Drawn (t .width) (record { «stood_in» = t .stoodIn; «nothing_drawn» = t .nothingDrawn })) e
+draw-apart (draw-is.Drawn w m) (draw-is.Refused r) e = absurd (false≢true (ap (λ (t : DrawTold). t .refused) e))
+draw-apart (draw-is.Refused r) (draw-is.Drawn w n) e = absurd (true≢false (ap (λ (t : DrawTold). t .refused) e))
 draw-apart (draw-is.Refused r) (draw-is.Refused s) e = ap (λ (t : DrawTold). draw-is.Refused (record { number = t .number; place = t .place })) e
 
 pub control-apart : (r s : ControlAnswer) → controlTells r ≡ controlTells s → r ≡ s
@@ -52,12 +53,7 @@ row-apart (row-is.Refused r) (row-is.NotRefused p v) e = absurd (true≢false (a
 row-apart (row-is.Refused r) (row-is.Refused s) e = ap (λ (t : RowTold). row-is.Refused (record { number = t .number; place = t .place })) e
 
 pub look-up-apart : (r s : LookUpAnswer) → lookUpTells r ≡ lookUpTells s → r ≡ s
-look-up-apart (look-up-is.Used d) (look-up-is.Used f) e = ap (λ (t : LookUpTold). look-up-is.Used (record { code = record { 0 = t .code }; start = t .start; width = t .width })) e
-look-up-apart (look-up-is.Used d) look-up-is.Nothing e = absurd (true≢false (ap (λ (t : LookUpTold). t .found) e))
-look-up-apart (look-up-is.Used d) (look-up-is.Refused r) e = absurd (true≢false (ap (λ (t : LookUpTold). t .found) e))
-look-up-apart look-up-is.Nothing (look-up-is.Used d) e = absurd (false≢true (ap (λ (t : LookUpTold). t .found) e))
-look-up-apart look-up-is.Nothing look-up-is.Nothing e = refl
-look-up-apart look-up-is.Nothing (look-up-is.Refused r) e = absurd (false≢true (ap (λ (t : LookUpTold). t .refused) e))
-look-up-apart (look-up-is.Refused r) (look-up-is.Used d) e = absurd (false≢true (ap (λ (t : LookUpTold). t .found) e))
-look-up-apart (look-up-is.Refused r) look-up-is.Nothing e = absurd (true≢false (ap (λ (t : LookUpTold). t .refused) e))
+look-up-apart (look-up-is.Looked u) (look-up-is.Looked v) e = ap look-up-is.Looked (entry-apart u v (ap (λ (t : LookUpTold). t .entry) e))
+look-up-apart (look-up-is.Looked u) (look-up-is.Refused r) e = absurd (false≢true (ap (λ (t : LookUpTold). t .refused) e))
+look-up-apart (look-up-is.Refused r) (look-up-is.Looked u) e = absurd (true≢false (ap (λ (t : LookUpTold). t .refused) e))
 look-up-apart (look-up-is.Refused r) (look-up-is.Refused s) e = ap (λ (t : LookUpTold). look-up-is.Refused (record { number = t .number; place = t .place })) e

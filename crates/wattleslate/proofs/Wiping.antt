@@ -14,14 +14,15 @@ use Rattle.subchars.specs.declared.VerticalLayout.{VerticalLayout}
 use Rattle.join.specs.Join.{exactBlock, leftOf, rightOf, besides, rowsOf}
 use Rattle.join.specs.JoinCall.{joinTold, joinArea}
 use Rattle.stack.specs.StackCall.{stackOf, stackRows, stackTold, stackArea}
-use Rattle.figure.specs.declared.DrawAnswer.{DrawAnswer}
-use Rattle.figure.specs.declared.DrawAnswer.the-variants.{Drawn, Refused}
-use Rattle.figure.specs.Line.{shown, outputOf, drawnOnly, outputBytes}
+use Rattle.figure.specs.declared.PutAnswer.{PutAnswer}
+use Rattle.figure.specs.declared.PutAnswer.the-variants.{Put, Refused}
+use Rattle.figure.specs.Line.{shown, outputOf, putOnly, outputBytes}
 use Rattle.font.specs.Font.{FontReading, refuses}
 use Rattle.entries.specs.Filling.{fontReading, zeroEntry, indexOf}
 use Rattle.flc.specs.Control as flc
 use Rattle.flc.specs.Lists.{CommandLists, commandLists, listsOf, controlReading}
-use Rattle.drawing.specs.Drawing.{Lined, lined, unlined, drawLined, linedAnswer, bytesOf}
+use Rattle.source.specs.declared.Counts.{Counts}
+use Rattle.drawing.specs.Drawing.{Lined, lined, unlined, drawLined, withCounts, linedAnswer, bytesOf}
 use Rattle.twolines.specs.TwoLines.{TwoLines, linesTold, linesBytes, linesOutput}
 use Rattle.wattleslate.specs.DrawCall.{drawTells, drawTold, drawOutput}
 
@@ -55,12 +56,12 @@ pub draw-wiped : (size : ℕ) (s control text : List ℕ) (room : ℕ) → drawT
 unfolding drawTold drawOutput linedAnswer bytesOf outputBytes
 draw-wiped size s control text room e = ap (λ (b : List ℕ). padded b room) (none (drawLined size s control text) e) ∙ ap zeros (less-none room)
   where
-    put-none : (a : DrawAnswer) (bytes : List ℕ) → drawTells a .refused ≡ true → drawnOnly a bytes ≡ []
-    put-none (Drawn w) bytes q = absurd (false≢true q)
-    put-none (Refused r) bytes q = refl
+    put-none : (n : Counts) (a : PutAnswer) (bytes : List ℕ) → drawTells (withCounts n a) .refused ≡ true → putOnly a bytes ≡ []
+    put-none n (Put w) bytes q = absurd (false≢true q)
+    put-none n (Refused r) bytes q = refl
 
     none : (l : Lined) → drawTells (linedAnswer l room) .refused ≡ true → bytesOf l room ≡ []
-    none (lined y h l) q = put-none (outputOf h l room) (shown (y .hardblank .0) h l) q
+    none (lined y h l n) q = put-none n (outputOf h l room) (shown (y .hardblank .0) h l) q
     none (unlined r) q = refl
 
 pub lines-wiped : (t : TwoLines) (room : ℕ) → linesTold t room .refused ≡ true → linesOutput t room ≡ zeros room

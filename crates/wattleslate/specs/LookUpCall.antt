@@ -3,38 +3,28 @@
 use Prim.Native.Nat.{ℕ}
 use mathlib.Core.Bool.{Bool, true, false}
 use mathlib.Core.List.{List}
-use lib.IntN.{ℤ, pos}
 use Rattle.subchars.specs.declared.Code.{Code}
 use Rattle.font.specs.Font.{FontReading, says, refuses, reading}
-use Rattle.reader.specs.declared.Use.{Use}
-use Rattle.reader.specs.declared.Use.the-variants as use-is
-use Rattle.reader.specs.Reader.{used}
+use Rattle.reader.specs.declared.LookedUp.the-variants.{Nothing}
+use Rattle.reader.specs.Reader.{lookedUp}
+use Rattle.entries.specs.Finding.{EntryTold, entryTells}
 use Rattle.wattleslate.specs.declared.LookUpAnswer.{LookUpAnswer}
-use Rattle.wattleslate.specs.declared.LookUpAnswer.the-variants.{Used, Nothing, Refused}
+use Rattle.wattleslate.specs.declared.LookUpAnswer.the-variants.{Looked, Refused}
 
 -- What an answer tells. "A refusal answers its number and place (0 where none is named); other numbers are 0."
 pub record LookUpTold : Type 0 where
   pub refused : Bool
   pub number : ℕ
   pub place : ℕ
-  pub found : Bool
-  pub code : ℤ
-  pub start : ℕ
-  pub width : ℕ
+  pub entry : EntryTold
 
 abbrev pub lookUpTells : LookUpAnswer → LookUpTold
-lookUpTells (Used e) = record { refused = false; number = 0; place = 0; found = true; code = e .code .0; start = e .start; width = e .width }
-lookUpTells Nothing = record { refused = false; number = 0; place = 0; found = false; code = pos 0; start = 0; width = 0 }
-lookUpTells (Refused r) = record { refused = true; number = r .number; place = r .place; found = false; code = pos 0; start = 0; width = 0 }
+lookUpTells (Looked u) = record { refused = false; number = 0; place = 0; entry = entryTells u }
+lookUpTells (Refused r) = record { refused = true; number = r .number; place = r .place; entry = entryTells Nothing }
 
--- "The entry used, or none."
-abbrev pub entryTold : Use → LookUpTold
-entryTold (use-is.Used e) = lookUpTells (Used e)
-entryTold use-is.Nothing = lookUpTells Nothing
-
--- "Look-up ..: those of" the font.
+-- "Look-up ..: those of" the font; otherwise "which of three it was".
 abbrev pub toldBy : Code → FontReading → LookUpTold
-toldBy c (says h es) = entryTold (used c es)
+toldBy c (says h es) = lookUpTells (Looked (lookedUp c es))
 toldBy c (refuses r) = lookUpTells (Refused r)
 
 unfoldable pub lookUpTold : List ℕ → Code → LookUpTold

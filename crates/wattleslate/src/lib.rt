@@ -14,9 +14,10 @@ pub use header::Given;
 pub use header::Header;
 pub use join::JoinAnswer;
 pub use reader::FontAnswer;
-pub use reader::Use;
+pub use reader::LookedUp;
 use request::Requested;
 use request::Sought;
+pub use source::Counts;
 pub use stack::StackAnswer;
 pub use subchars::Code;
 pub use subchars::Direction;
@@ -26,12 +27,17 @@ pub use subchars::Smushing;
 pub use subchars::SubCharacter;
 pub use subchars::VerticalLayout;
 pub use subchars::VerticalSmushing;
+pub use twolines::LinesAnswer;
 ghost use mathlib.Core.Path.{_≡_};
+ghost use mathlib.Core.List.{List};
 ghost use lib.ListN.{length};
 ghost use Rattle.ground.specs.Area.{zeros};
 ghost use Rattle.join.specs.JoinCall.{JoinGives};
 ghost use Rattle.stack.specs.StackCall.{StackGives};
 ghost use Rattle.twolines.specs.TwoLines.{drawLines, LinesOut};
+ghost use Rattle.chars.specs.declared.Entry.{Entry};
+ghost use Rattle.reader.specs.declared.Use.the-variants.{Used};
+ghost use Rattle.reader.specs.Reader.{used, lookedUp};
 ghost use Rattle.request.specs.Request.{rowRequest};
 ghost use Rattle.flc.specs.Lists.{commandLists};
 ghost use Rattle.wattleslate.specs.LookUpCall.{lookUpTells, lookUpTold};
@@ -40,10 +46,9 @@ ghost use Rattle.wattleslate.specs.ControlCall.{ControlRead};
 ghost use Rattle.wattleslate.specs.MapCall.{mapTells, mapTold};
 ghost use Rattle.wattleslate.specs.DrawCall.{drawTells, drawTold, drawOutput};
 
-// What a look-up answers: the entry used, with its own code, start and width; that there is none; or the font's refusal.
+// What a look-up answers: which of three it was, with the entry's own code, start and width; or the font's refusal.
 pub enum LookUpAnswer {
-    Used(Entry),
-    Nothing,
+    Looked(LookedUp),
     Refused(Refusal),
 }
 
@@ -59,13 +64,24 @@ pub enum MapAnswer {
     Refused(Refusal),
 }
 
-// The character of a font that is used for a code: the last that has it, or else the last with code 0. The font's refusals.
+// Which of three an entry is that is used for a code: the code's own if it has that code, and otherwise the one that stands in.
+fn which_of(entry: Entry, code: Code) -> LookedUp
+    ensures { λ r. ⌜ ((es : List Entry) → used code es ≡ Used entry → r ≡ lookedUp code es) ⌝ }
+{
+    let own = entry.code;
+    if chars::same_code(own, code) {
+        return LookedUp::Found(entry);
+    }
+    LookedUp::StoodIn(entry)
+}
+
+// Looks a code up in a font: the last character that has it is found, or else the last with code 0 stands in. The font's refusals.
 pub fn look_up(font: &[u8], code: Code) -> LookUpAnswer
     ensures answer { λ r. ⌜ lookUpTells r ≡ lookUpTold (now (font .entry)) code ⌝ }
 {
     match request::seek(font, code) {
-        Sought::Found { height: _, entry } => LookUpAnswer::Used(entry),
-        Sought::NoDrawing => LookUpAnswer::Nothing,
+        Sought::Found { height: _, entry } => LookUpAnswer::Looked(which_of(entry, code)),
+        Sought::NoDrawing => LookUpAnswer::Looked(LookedUp::Nothing),
         Sought::Unread(r) => LookUpAnswer::Refused(r),
     }
 }
@@ -184,7 +200,7 @@ pub fn stack(
 }
 
 // Draws a line of text by a font and a control file, and writes it to `out`: each row with hardblanks as blanks, then LF, with zeros behind. The
-// answer gives the width. `scratch` has 32,000 bytes or more, and is all zeros afterwards. Refusals: 9 for the scratch, the font's (1 to 8), the
+// answer gives the width, and how many text bytes were stood in and how many drew nothing. `scratch` has 32,000 bytes or more, and is all zeros afterwards. Refusals: 9 for the scratch, the font's (1 to 8), the
 // control file's (10 to 14), 15, 16, then 9 for `out`; they leave `out` all zeros.
 pub fn draw(
     font: &[u8],
@@ -201,7 +217,7 @@ pub fn draw(
 }
 
 // Draws two texts by a font and a control file, the lower line under the upper one and closed up as the font's vertical layout says, and writes them to
-// `out`: each row, then LF, with zeros behind. `scratch` has 64,000 bytes or more, and is all zeros afterwards. Refusals: 9 for the scratch, the font's
+// `out`: each row, then LF, with zeros behind. The answer counts what was stood in and what drew nothing over both texts. `scratch` has 64,000 bytes or more, and is all zeros afterwards. Refusals: 9 for the scratch, the font's
 // (1 to 8), the control file's (10 to 14), 15 and 16 of either, then 9 for `out`; they leave `out` all zeros.
 pub fn draw_stacked(
     font: &[u8],
@@ -210,7 +226,7 @@ pub fn draw_stacked(
     lower: &[u8],
     scratch: &mut [u8],
     out: &mut [u8],
-) -> StackAnswer
+) -> LinesAnswer
     ensures lines { λ r. ⌜ LinesOut (drawLines (length (now (scratch .entry))) (now (font .entry)) (now (control .entry)) (now (upper .entry)) (now (lower .entry))) (length (now (out .entry))) r (now (out .exit)) ⌝ }
     ensures scratch { λ r. ⌜ now (scratch .exit) ≡ zeros (length (now (scratch .entry))) ⌝ }
 {

@@ -18,7 +18,7 @@ pub fn banner_font(header: &str, end: &str) -> Vec<u8> {
     font
 }
 
-const HEADER: &str = "flf2a$ 1 1 4 -1 0";
+pub const HEADER: &str = "flf2a$ 1 1 4 -1 0";
 
 /// What the font reads as: one row, so many characters.
 fn reads(count: u16) -> Apart {
@@ -112,7 +112,7 @@ const JOINS: &[(&str, &str, usize, usize, u16, &str)] = &[
 /// "A backslash with a blank, one of `abefnrtv\\` (7, 8, 27, 12, 10, 13, 9, 11, 92)."
 const ESCAPES: &str = "t \\a A\nt \\b B\nt \\e C\nt \\f D\nt \\n E\nt \\r F\nt \\t G\nt \\v H\nt \\\\ I\nt \\  J";
 
-/// Drawings with the font of the program banner: header, control file, text, output.
+/// Drawings with the font of the program banner, which has every byte of these texts: header, control file, text, output.
 const DRAWINGS: &[(&str, &str, &str, &str)] = &[
     (HEADER, "", "sw11", "sw11\n"),
     ("flf2a$ 1 1 4 1 0", "", "sw11", "sw1\n"),
@@ -122,7 +122,6 @@ const DRAWINGS: &[(&str, &str, &str, &str)] = &[
     (HEADER, "t A B\nf\nt B A", "AB", "AA\n"),
     (HEADER, ESCAPES, "\x07\x08\x1b\x0c\n\r\t\x0b\\ ", "ABCDEFGHIJ\n"),
     (HEADER, "", "a $b", "a  b\n"),
-    (HEADER, "", "\u{1}a", "a\n"),
     (HEADER, "", "", "\n"),
 ];
 
@@ -253,5 +252,6 @@ pub fn run() -> (u64, u64) {
         check.draw(&banner_font(header, "\n"), control, text, result);
     }
     check.stacks();
+    check.replaced();
     (check.made, check.wrong)
 }

@@ -7,6 +7,8 @@ const MARKS: &[u8] = b"|/\\[]{}()<>_$#@ab";
 /// What some fonts are drawn with, so that their lines close up by every vertical rule.
 const FEW: &[&[u8]] = &[b"|", b"|", b"-_", b"-_", b"-_|", b"a"];
 const HARDBLANKS: &[u8] = b"$$$$$$|_/Y#=\t\x7f\xe4";
+/// Codes that few fonts have, as a control file may write them.
+const MISSING: &[&str] = &["0", "0", "-1", "0x80", "1000", "-2147483648"];
 /// The codes that a backslash and a letter stand for.
 const ESCAPED: &[u8] = &[7, 8, 27, 12, 10, 13, 9, 11, 92, 32];
 const ENDS: &[&[u8]] = &[b"\n", b"\n", b"\r\n", b"\r"];
@@ -223,9 +225,10 @@ fn character(r: &mut Random, s: &Sizes, end: &[u8], out: &mut Vec<u8>) {
 }
 
 fn tag(r: &mut Random, wild: bool) -> Vec<u8> {
-    let n = match r.below(4) {
+    let n = match r.below(5) {
         0 => r.next() as i32 as i64,
         1 => r.pick(ESCAPED) as i64,
+        2 => 0,
         _ => r.below(256) as i64,
     };
     let n = if n == -1 { 0 } else { n };
@@ -327,7 +330,7 @@ fn command(r: &mut Random) -> Vec<u8> {
     let gap = r.pick(&[&b" "[..], b"\t", b"  ", b" ", b" ", b" "]);
     let tail = r.pick(&[&b""[..], b"", b"", b"", b" x", b"\t# y", b"z"]);
     let tail = if r.one_in(3) { tail } else { b"" };
-    match r.below(12) {
+    match r.below(18) {
         0 => b"f".to_vec(),
         1 => r.pick(&[&b"# t"[..], b"", b" \t", b"frest", b"flc2a"]).to_vec(),
         2 => [&tag(r, true)[..], gap, &tag(r, false), tail].concat(),
@@ -340,6 +343,8 @@ fn command(r: &mut Random) -> Vec<u8> {
             let other = if r.one_in(6) { r.below(4) } else { size };
             [b"t", gap, &easy_range(r, size), gap, &easy_range(r, other), tail].concat()
         }
+        12..=15 => [b"t", gap, &[r.pick(b"abcdABCD")], gap, b"\\", r.pick(MISSING).as_bytes(), tail].concat(),
+        16 | 17 => [r.pick(ESCAPED).to_string().as_bytes(), gap, r.pick(&["0", "65", "98"]).as_bytes(), tail].concat(),
         7 if r.one_in(6) => [&[r.pick(b"hjbugcds T\x0c")][..], b" x"].concat(),
         _ => [b"t", gap, &[r.pick(b"abcdABCD")], gap, &[r.pick(b"abcdABCD")], tail].concat(),
     }
@@ -384,11 +389,13 @@ pub fn text(r: &mut Random) -> Vec<u8> {
         2..=5 => 0,
         _ => r.below(24),
     };
-    let any = r.one_in(5);
+    let (any, odd) = (r.one_in(5), r.one_in(20));
     let one = |r: &mut Random| match r.below(8) {
+        _ if odd => r.pick(ESCAPED),
+        0 if r.one_in(4) => 0,
         0 => r.pick(ESCAPED),
         1..=4 if any => r.byte(),
-        1 => r.pick(b"abcdABCD"),
+        1 | 2 => r.pick(b"abcdABCD"),
         _ => r.between(32, 126) as u8,
     };
     (0..length).map(|_| one(r)).collect()

@@ -5,5 +5,7 @@ pub mod inputs;
 pub mod met;
 pub mod plain;
 pub mod random;
+pub mod replaced;
+pub mod replaced_cases;
 pub mod stack_cases;
 pub mod stacks;

@@ -18,12 +18,12 @@ impl Met {
         Met { what, names, times: vec![0; names.len()] }
     }
 
-    fn add(&mut self, name: &str) {
+    pub fn add(&mut self, name: &str) {
         let at = self.names.iter().position(|n| *n == name).unwrap_or_else(|| panic!("no case {name}"));
         self.times[at] += 1;
     }
 
-    fn add_if(&mut self, holds: bool, name: &str) {
+    pub fn add_if(&mut self, holds: bool, name: &str) {
         if holds {
             self.add(name);
         }

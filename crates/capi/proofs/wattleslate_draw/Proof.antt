@@ -2,7 +2,7 @@
 -- Assumes nothing.
 use mathlib.Core.Path.{sym, ap, _∙_}
 use Rattle.wattleslate.specs.DrawCall.{drawTells}
-use Rattle.figure.specs.declared.DrawAnswer.the-variants.{Drawn, Refused}
+use Rattle.drawing.specs.declared.DrawAnswer.the-variants.{Drawn, Refused}
 use Rattle.capi.specs.Numbers.{drawNumber}
 use Rattle.capi.proofs.Bounds.{draw-fits}
 use borrow.Author.Needs.{needs}
@@ -16,7 +16,7 @@ enum-known-width : tie.Need-enum-known-width
 enum-known-width c = search needs
 
 three-values-requires : tie.Need-three-values-requires
-three-values-requires c κs = draw-fits _ _ _ _ _ (Drawn _) (sym (ap drawTells (c .before .width .given .1)) ∙ c .before .before .before .before .before .before .before .draw .ensures .0)
+three-values-requires c κs = draw-fits _ _ _ _ _ (Drawn _ _) (sym (ap drawTells (c .before .width .given .1)) ∙ c .before .before .before .before .before .before .before .draw .ensures .0)
 
 enum-known-r : tie.Need-enum-known-r
 enum-known-r c = search needs

@@ -7,7 +7,7 @@ use Rattle.subchars.specs.declared.Mode.{Mode}
 use Rattle.source.specs.Source.{fontSource}
 use Rattle.source.specs.Held.{Gives, of-font}
 use Rattle.source.proofs.CharacterLaws.{few-rows}
-use Rattle.drawing.specs.Drawing.{textCodes, lineOf, Lined, lined, PutOut}
+use Rattle.drawing.specs.Drawing.{textCodes, Lined, linedText, PutOut}
 use Rattle.drawing.proofs.OutputLaws.{text-long, text-lined}
 use borrow.Author.Needs.{needs}
 use Rattle.drawing.proofs.draw_text.Statement.{statement}
@@ -34,8 +34,13 @@ join-text-requires c κs =
     let p = c .before .before .before .before .before .before .before .before .before .before .before .pre in
     ((fontSource _ (p .0 .characters), of-font (c .before .before .before .before .before .before .before .before .before .before .before .args .header) (p .0) refl refl), (p .1 .0, (omega arith, p .1 .1)))
 
+counts-of-requires : tie.Need-counts-of-requires
+counts-of-requires c κs =
+    let p = c .before .before .before .before .before .before .before .before .before .before .before .before .before .before .pre in
+    (fontSource _ (p .0 .characters), of-font (c .before .before .before .before .before .before .before .before .before .before .before .before .before .before .args .header) (p .0) refl refl)
+
 put-out-requires : tie.Need-put-out-requires
-put-out-requires c κs = (few-rows _ _ _ _ _ _ _ (c .before .before .before .before .before .before .before .before .before .before .before .before .before .before .before .before .pre .0), omega (arith, c .before .before .before .before .join-text .kept .0, c .before .before .before .before .before .before .before .before .before .before .before .before .before .before .before .before .pre .1 .1))
+put-out-requires c κs = (few-rows _ _ _ _ _ _ _ (c .before .before .before .before .before .before .before .before .before .before .before .before .before .before .before .before .before .pre .0), omega (arith, c .before .before .before .before .before .join-text .kept .0, c .before .before .before .before .before .before .before .before .before .before .before .before .before .before .before .before .before .pre .1 .1))
 
 same-length-2 : tie.Need-same-length-2
 same-length-2 c = search needs
@@ -45,13 +50,16 @@ same-length-3 c = search needs
 
 returns-2 : tie.Need-returns-2
 returns-2 c =
-    let a = c .before .before .before .before .before .before .before .before .before .before .before .before .before .before .before .before .before .before .before .args in
-    let f = c .before .before .before .before .before .before .before .before .before .before .before .before .before .before .before .before .before .before .before .pre .0 in
+    let a = c .before .before .before .before .before .before .before .before .before .before .before .before .before .before .before .before .before .before .before .before .args in
+    let f = c .before .before .before .before .before .before .before .before .before .before .before .before .before .before .before .before .before .before .before .before .pre .0 in
     λ control held.
+    let source = fontSource (a .font .now) (f .characters) in
+    let given = of-font (a .header) f refl refl in
+    let drawn = c .before .before .before .before .before .before .before .before .join-text .ensures source given control held in
     subst (λ (l : Lined). PutOut l (length (a .out .now)) (c .before .before .put-out .result) (c .before .before .put-out .last .0))
-    (sym (text-lined (a .font .now) control (a .text .now) (a .header) _ _ _ (f .said) (held .said) (c .before .before .before .before .before .before .before .before .before .before .if1 .left)))
-    (subst (λ (y : Mode). PutOut (lined y (a .header .height) (lineOf y (a .header .height) (fontSource (a .font .now) (f .characters)) (textCodes (held .commands) (held .count) (a .text .now)))) (length (a .out .now)) (c .before .before .put-out .result) (c .before .before .put-out .last .0)) (c .before .before .before .before .before .before .before .before .before .mode-of .ensures)
-    (c .before .before .put-out .ensures _ (c .before .before .before .before .before .before .before .join-text .ensures (fontSource (a .font .now) (f .characters)) (of-font (a .header) f refl refl) control held)))
+    (sym (text-lined (a .font .now) control (a .text .now) (a .header) _ _ _ (f .said) (held .said) (c .before .before .before .before .before .before .before .before .before .before .before .if1 .left)))
+    (subst (λ (y : Mode). PutOut (linedText y (a .header .height) source (textCodes (held .commands) (held .count) (a .text .now))) (length (a .out .now)) (c .before .before .put-out .result) (c .before .before .put-out .last .0)) (c .before .before .before .before .before .before .before .before .before .before .mode-of .ensures)
+    (c .before .before .put-out .ensures source _ (drawn .line) (λ w. c .before .before .before .before .before .counts-of .ensures source given _ (drawn .all w))))
 
 pub draw-text-spec : {M : Type 1} → statement M
 draw-text-spec =
@@ -62,6 +70,7 @@ draw-text-spec =
     returns
     mode-of-requires
     join-text-requires
+    counts-of-requires
     put-out-requires
     same-length-2
     same-length-3

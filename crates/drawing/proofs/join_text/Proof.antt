@@ -1,4 +1,4 @@
--- `drawing::join_text` meets its contract. The invariant: the line in the area, with what is left of the text, is the line of the text.
+-- `drawing::join_text` meets its contract. The invariant: the line in the area and what is counted, with what is left of the text, are those of the text.
 -- Assumes nothing.
 use mathlib.Core.List.{List}
 use mathlib.Core.Path.{_≡_, refl, ap, _∙_}
@@ -13,17 +13,19 @@ use Rattle.flc.specs.Passing.{ControlHeld}
 use Rattle.source.specs.Source.{Source}
 use Rattle.source.specs.Held.{Gives}
 use Rattle.source.proofs.CharacterLaws.{given-high}
-use Rattle.drawing.proofs.TextLaws.{Toward, toward-first, toward-next, toward-beyond, toward-end}
+use Rattle.drawing.proofs.DrawingLaws.{as-many}
+use Rattle.drawing.proofs.TextLaws.{Toward, toward-first, toward-next, toward-beyond, toward-end, Counted, counted-first, counted-few, counted-next, counted-end}
 use Rattle.drawing.proofs.join_text.Statement.{statement}
 use Rattle.drawing.proofs.join_text.Tie as tie
 
 abbrev Inv-loop : tie.InvT-loop
-Inv-loop area₀ text limit mode height font count codes starts widths places commands stages firsts lasts news rows found₀ n₀ i₀ area found n i =
+Inv-loop area₀ text limit mode height font count codes starts widths places commands stages firsts lasts news rows found₀ n₀ missing₀ i₀ area found n missing i =
     (n ≤ limit) × (length area ≡ length area₀) × (length found ≡ maxHeight) ×
-    ((source : Source) (given : Gives source font height count codes starts widths places) (control : List ℕ) (held : ControlHeld control commands stages firsts lasts news) → Toward mode height source (held .commands) (held .count) text area n i)
+    ((source : Source) (given : Gives source font height count codes starts widths places) (control : List ℕ) (held : ControlHeld control commands stages firsts lasts news) →
+    Toward mode height source (held .commands) (held .count) text area n i × Counted source (held .commands) (held .count) text missing i)
 
 abbrev μ-loop : tie.MeasureT-loop
-μ-loop area₀ text limit mode height font count codes starts widths places commands stages firsts lasts news rows found₀ n₀ i₀ area found n i =
+μ-loop area₀ text limit mode height font count codes starts widths places commands stages firsts lasts news rows found₀ n₀ missing₀ i₀ area found n missing i =
     length text - i
 
 row-starts-requires : tie.Need-row-starts-requires Inv-loop μ-loop
@@ -32,7 +34,7 @@ row-starts-requires c κs = (given-high _ _ _ _ _ _ _ _ (c .before .before .befo
 loop-holds : tie.Need-loop-holds Inv-loop μ-loop
 loop-holds c =
     let a = c .before .before .before .before .before .before .before .before .args in
-    (omega arith, refl, refl, λ source g control held. toward-first (a .mode) (a .height) source (held .commands) (held .count) (a .text .now) (a .area .now))
+    (omega arith, refl, refl, λ source g control held. (toward-first (a .mode) (a .height) source (held .commands) (held .count) (a .text .now) (a .area .now), counted-first source (held .commands) (held .count) (a .text .now)))
 
 shared-slice-read-code-of : tie.Need-shared-slice-read-code-of Inv-loop μ-loop
 shared-slice-read-code-of c = c .before .loop-test .taken
@@ -43,45 +45,67 @@ code-of-requires c κs = search needs
 map-by-requires : tie.Need-map-by-requires Inv-loop μ-loop
 map-by-requires c κs = usable _ _ _ _ _ _ (c .before .before .before .before .before .before .before .before .before .before .before .before .pre .1 .0 .1)
 
-slice-aggregate-draw-code : tie.Need-slice-aggregate-draw-code Inv-loop μ-loop
-slice-aggregate-draw-code c = search needs
+slice-aggregate-choose : tie.Need-slice-aggregate-choose Inv-loop μ-loop
+slice-aggregate-choose c = search needs
 
-slice-aggregate-draw-code-2 : tie.Need-slice-aggregate-draw-code-2 Inv-loop μ-loop
-slice-aggregate-draw-code-2 c = search needs
+choose-requires : tie.Need-choose-requires Inv-loop μ-loop
+choose-requires c κs = (c .before .before .before .before .before .before .before .before .before .before .before .before .before .before .pre .0, omega (arith, c .before .before .before .before .before .loop .inv .2))
 
-draw-code-requires : tie.Need-draw-code-requires Inv-loop μ-loop
-draw-code-requires c κs =
-    let p = c .before .before .before .before .before .before .before .before .before .before .before .before .before .before .before .before .pre in
-    let l = c .before .before .before .before .before .before .before .loop in
-    (p .0, ((l .inv .0, p .1 .1 .0, omega (arith, p .1 .1 .1, l .inv .1), omega (arith, l .inv .2)), c .before .before .before .before .before .before .before .before .row-starts .ensures))
+slice-aggregate-draw-chosen : tie.Need-slice-aggregate-draw-chosen Inv-loop μ-loop
+slice-aggregate-draw-chosen c = search needs
+
+slice-aggregate-draw-chosen-2 : tie.Need-slice-aggregate-draw-chosen-2 Inv-loop μ-loop
+slice-aggregate-draw-chosen-2 c = search needs
+
+draw-chosen-requires : tie.Need-draw-chosen-requires Inv-loop μ-loop
+draw-chosen-requires c κs =
+    let p = c .before .before .before .before .before .before .before .before .before .before .before .before .before .before .before .before .before .before .before .pre in
+    let l = c .before .before .before .before .before .before .before .before .before .before .loop in
+    ((_, c .before .before .before .before .choose .ensures (p .0 .0) (p .0 .1)), ((l .inv .0, p .1 .1 .0, given-high _ _ _ _ _ _ _ _ (p .0 .1) .1, omega (arith, p .1 .1 .1, l .inv .1)), c .before .before .before .before .before .before .before .before .before .before .before .row-starts .ensures))
+
+count-missing-requires : tie.Need-count-missing-requires Inv-loop μ-loop
+count-missing-requires c κs =
+    let p = c .before .before .before .before .before .before .before .before .before .before .before .before .before .before .before .before .before .before .before .before .before .before .pre in
+    let held = p .1 .0 .1 in
+    omega (arith, counted-few _ _ _ _ _ _ (c .before .before .before .before .before .before .before .before .before .before .before .before .before .loop .inv .3 (p .0 .0) (p .0 .1) (p .1 .0 .0) held .1), as-many (held .commands) (held .count) (c .before .before .before .before .before .before .before .before .before .before .before .before .before .before .before .before .before .before .before .before .before .before .args .text .now), c .before .before .before .before .before .before .before .before .before .before .before .before .before .before .before .before .before .before .before .before .before .before .good .1 .0)
 
 same-length : tie.Need-same-length Inv-loop μ-loop
-same-length c = omega (arith, c .before .before .before .before .draw-code .kept .0, c .before .before .before .before .before .before .before .before .before .before .before .before .loop .inv .1)
+same-length c = omega (arith, c .before .before .before .before .draw-chosen .kept, c .before .before .before .before .before .before .before .before .before .before .before .before .before .before .before .loop .inv .1)
 
 returns : tie.Need-returns Inv-loop μ-loop
 returns c =
-    let a = c .before .before .before .before .before .before .before .before .before .before .before .before .before .before .before .before .before .before .before .before .before .args in
-    let l = c .before .before .before .before .before .before .before .before .before .before .before .before .loop in
+    let a = c .before .before .before .before .before .before .before .before .before .before .before .before .before .before .before .before .before .before .before .before .before .before .before .before .args in
+    let l = c .before .before .before .before .before .before .before .before .before .before .before .before .before .before .before .loop in
     λ source g control held.
-    let is = mapped control (a .commands) (a .stages .now) (a .firsts .now) (a .lasts .now) (a .news .now) held _ _ (c .before .before .before .before .before .before .before .before .map-by .ensures) ∙ ap (mapStages (held .commands) 0 (held .count)) (c .before .before .before .before .before .before .before .before .before .code-of .ensures) in
-    toward-beyond (a .mode) (a .height) source (held .commands) (held .count) (a .text .now) (a .limit) (l .area) (l .n) (l .i) (l .inv .3 source g control held) (c .before .before .before .before .before .before .before .before .before .before .before .loop-test .taken) _ is (c .before .before .before .before .draw-code .last .0) _ (c .before .before .before .before .draw-code .ensures source g) (c .if1 .taken)
+    let is = mapped control (a .commands) (a .stages .now) (a .firsts .now) (a .lasts .now) (a .news .now) held _ _ (c .before .before .before .before .before .before .before .before .before .before .before .map-by .ensures) ∙ ap (mapStages (held .commands) 0 (held .count)) (c .before .before .before .before .before .before .before .before .before .before .before .before .code-of .ensures) in
+    let z = c .before .before .before .before .before .before .before .before .before .choose .ensures source g in
+    let so = l .inv .3 source g control held in
+    record {
+      line = toward-beyond (a .mode) (a .height) source (held .commands) (held .count) (a .text .now) (a .limit) (l .area) (l .n) (l .i) (so .0) (c .before .before .before .before .before .before .before .before .before .before .before .before .before .before .loop-test .taken) _ is (c .before .before .before .before .draw-chosen .last .0) _ (c .before .before .before .before .draw-chosen .ensures _ z) (c .if1 .taken);
+      few = counted-few source (held .commands) (held .count) (a .text .now) _ _ (counted-next source (held .commands) (held .count) (a .text .now) (l .missing) (l .i) (so .1) (c .before .before .before .before .before .before .before .before .before .before .before .before .before .before .loop-test .taken) _ is _ (c .before .count-missing .ensures _ _ _ _ z));
+      all = λ w. absurd (omega (arith, c .if1 .taken));
+    }
 
 add-i : tie.Need-add-i Inv-loop μ-loop
-add-i c = omega (arith, c .before .before .before .before .before .before .before .before .before .before .before .loop-test .taken, c .before .before .before .before .before .before .before .before .before .before .before .before .before .before .before .before .before .before .before .before .before .good .1 .0)
+add-i c = omega (arith, c .before .before .before .before .before .before .before .before .before .before .before .before .before .before .loop-test .taken, c .before .before .before .before .before .before .before .before .before .before .before .before .before .before .before .before .before .before .before .before .before .before .before .before .good .1 .0)
 
 loop-less : tie.Need-loop-less Inv-loop μ-loop
-loop-less c = omega (arith, c .before .before .before .before .before .before .before .before .before .before .before .loop-test .taken)
+loop-less c = omega (arith, c .before .before .before .before .before .before .before .before .before .before .before .before .before .before .loop-test .taken)
 
 loop-again : tie.Need-loop-again Inv-loop μ-loop
 loop-again c =
-    let a = c .before .before .before .before .before .before .before .before .before .before .before .before .before .before .before .before .before .before .before .before .before .args in
-    let l = c .before .before .before .before .before .before .before .before .before .before .before .before .loop in (
+    let a = c .before .before .before .before .before .before .before .before .before .before .before .before .before .before .before .before .before .before .before .before .before .before .before .before .args in
+    let l = c .before .before .before .before .before .before .before .before .before .before .before .before .before .before .before .loop in (
       c .if1 .left,
-      omega (arith, c .before .before .before .before .draw-code .kept .0, l .inv .1),
-      omega (arith, c .before .before .before .before .draw-code .kept .1, l .inv .2),
+      omega (arith, c .before .before .before .before .draw-chosen .kept, l .inv .1),
+      omega (arith, c .before .before .before .before .before .before .before .before .before .choose .kept, l .inv .2),
       λ source g control held.
-          let is = mapped control (a .commands) (a .stages .now) (a .firsts .now) (a .lasts .now) (a .news .now) held _ _ (c .before .before .before .before .before .before .before .before .map-by .ensures) ∙ ap (mapStages (held .commands) 0 (held .count)) (c .before .before .before .before .before .before .before .before .before .code-of .ensures) in
-          toward-next (a .mode) (a .height) source (held .commands) (held .count) (a .text .now) (a .limit) (l .area) (l .n) (l .i) (l .inv .3 source g control held) (c .before .before .before .before .before .before .before .before .before .before .before .loop-test .taken) _ is (c .before .before .before .before .draw-code .last .0) _ (c .before .before .before .before .draw-code .ensures source g) (c .if1 .left),
+          let is = mapped control (a .commands) (a .stages .now) (a .firsts .now) (a .lasts .now) (a .news .now) held _ _ (c .before .before .before .before .before .before .before .before .before .before .before .map-by .ensures) ∙ ap (mapStages (held .commands) 0 (held .count)) (c .before .before .before .before .before .before .before .before .before .before .before .before .code-of .ensures) in
+          let z = c .before .before .before .before .before .before .before .before .before .choose .ensures source g in
+          let so = l .inv .3 source g control held in (
+            toward-next (a .mode) (a .height) source (held .commands) (held .count) (a .text .now) (a .limit) (l .area) (l .n) (l .i) (so .0) (c .before .before .before .before .before .before .before .before .before .before .before .before .before .before .loop-test .taken) _ is (c .before .before .before .before .draw-chosen .last .0) _ (c .before .before .before .before .draw-chosen .ensures _ z) (c .if1 .left),
+            counted-next source (held .commands) (held .count) (a .text .now) (l .missing) (l .i) (so .1) (c .before .before .before .before .before .before .before .before .before .before .before .before .before .before .loop-test .taken) _ is _ (c .before .count-missing .ensures _ _ _ _ z),
+          ),
     )
 
 same-length-2 : tie.Need-same-length-2 Inv-loop μ-loop
@@ -91,7 +115,13 @@ returns-2 : tie.Need-returns-2 Inv-loop μ-loop
 returns-2 c =
     let a = c .before .before .before .before .before .before .before .before .before .before .args in
     let l = c .before .loop in
-    λ source g control held. toward-end (a .mode) (a .height) source (held .commands) (held .count) (a .text .now) (a .limit) (l .area) (l .n) (l .i) (l .inv .3 source g control held) (c .loop-test .left) (l .inv .0)
+    λ source g control held.
+    let so = l .inv .3 source g control held in
+    record {
+      line = toward-end (a .mode) (a .height) source (held .commands) (held .count) (a .text .now) (a .limit) (l .area) (l .n) (l .i) (so .0) (c .loop-test .left) (l .inv .0);
+      few = counted-few source (held .commands) (held .count) (a .text .now) (l .missing) (l .i) (so .1);
+      all = λ w. counted-end source (held .commands) (held .count) (a .text .now) (l .missing) (l .i) (so .1) (c .loop-test .left);
+    }
 
 pub join-text-spec : {M : Type 1} → statement M
 join-text-spec =
@@ -104,9 +134,12 @@ join-text-spec =
     shared-slice-read-code-of
     code-of-requires
     map-by-requires
-    slice-aggregate-draw-code
-    slice-aggregate-draw-code-2
-    draw-code-requires
+    slice-aggregate-choose
+    choose-requires
+    slice-aggregate-draw-chosen
+    slice-aggregate-draw-chosen-2
+    draw-chosen-requires
+    count-missing-requires
     same-length
     returns
     add-i

@@ -1,5 +1,5 @@
 -- `entries::find_in` meets its contract: a walk of its MIR, by hand, with a loop. The slice is looked into once, before the loop, and shut after it. A turn takes entry i
--- out of the row, reads it, puts it back, and calls `better`, which is covered: the entry used among the first i becomes that among the first i + 1.
+-- out of the row, reads it, puts it back, and calls `better`, which is covered: what the look-up comes to among the first i becomes that among the first i + 1.
 -- Assumes nothing.
 use mathlib.Core.Path.{_≡_, refl, sym, _∙_, ap, subst}
 use Prim.Native.Nat.{ℕ, suc, _<_, _^_, min}
@@ -54,16 +54,16 @@ use Rattle.subchars.proofs.Code as K
 use Rattle.subchars.proofs.Code.Laws as K′
 use Rattle.chars.specs.declared.Entry.{Entry}
 use Rattle.chars.proofs.Entry.Laws as E′
-use Rattle.reader.specs.declared.Use.{Use}
-use Rattle.reader.specs.declared.Use.the-variants.{Nothing}
-use Rattle.reader.specs.Reader.{used}
-use Rattle.reader.proofs.Use as U
-use Rattle.reader.proofs.Use.Laws as U′
+use Rattle.reader.specs.declared.LookedUp.{LookedUp}
+use Rattle.reader.specs.declared.LookedUp.the-variants.{Nothing}
+use Rattle.reader.specs.Reader.{lookedUp}
+use Rattle.reader.proofs.LookedUp as U
+use Rattle.reader.proofs.LookedUp.Laws as U′
 use Rattle.entries.specs.Filling.{zeroEntry}
 use Rattle.entries.specs.Finding.{entryTells, findTold}
 use Rattle.entries.specs.Steps.{better as betterOf}
 use Rattle.entries.proofs.Row.{R, vals, tells, place-24, step-fits, next-fits, makes, copies, typed}
-use Rattle.entries.proofs.FindLaws.{used-none, used-next, find-told}
+use Rattle.entries.proofs.FindLaws.{looked-none, looked-next, find-told}
 use Rattle.entries.proofs.Counted.{counts}
 use Rattle.entries.proofs.CallSmaller as S
 use Rattle.entries.proofs.CallSmaller.{Smaller}
@@ -87,17 +87,17 @@ stayed = (stay-none-slice (0 ∷ []) tt (plain (λ _. R)) yes, (stay-none (λ _.
 abbrev Better : {M : Type 1} (𝓤 : URA M) (H : Heap 𝓤) (A : Atoms 𝓤) (mem : Memory → SProp 𝓤) (run : Routine → Fun 𝓤) → Contract 𝓤
 Better 𝓤 H A mem run = tripleOf 𝓤 H A better.signature (better.spec 𝓤 H A mem run)
 
--- a code and what is used, as machine values
+-- a code and what a look-up came to, as machine values
 abbrev code-val : Code → Val
 code-val = SL.val K.the-type K′.the-laws
 
-abbrev use-val : Use → Val
-use-val = EL.val U.the-type U′.the-laws
+abbrev seen-val : LookedUp → Val
+seen-val = EL.val U.the-type U′.the-laws
 
-abbrev use-vals : Use → List Val
-use-vals = EL.vals U.the-type U′.the-laws
+abbrev seen-vals : LookedUp → List Val
+seen-vals = EL.vals U.the-type U′.the-laws
 
-nothing-is : Is U.the-row Nothing (use-vals Nothing)
+nothing-is : Is U.the-row Nothing (seen-vals Nothing)
 nothing-is = EL.owes U.the-type U′.the-laws Nothing tt
 
 abbrev word : Ty
@@ -128,15 +128,15 @@ module _ {M : Type 1} (𝓤 : URA M) (H : Heap 𝓤) (A : Atoms 𝓤) (W : Given
   abbrev x : Arg
   x = (record { ptr = (b, o); name = γ; now = ys }, (count, (c, tt)))
 
-  -- how many entries are seen, and the entry used among the first i
+  -- how many entries are seen, and what the look-up comes to among the first i
   abbrev n : ℕ
   n = min count (length ys)
 
   n-fits : n < 2 ^ 64
   n-fits = omega arith
 
-  abbrev u : ℕ → Use
-  u i = used c (take i ys)
+  abbrev u : ℕ → LookedUp
+  u i = lookedUp c (take i ys)
 
   abbrev sl : Val
   sl = sliceVal (b, o) (length ys)
@@ -156,33 +156,33 @@ module _ {M : Type 1} (𝓤 : URA M) (H : Heap 𝓤) (A : Atoms 𝓤) (W : Given
   abbrev Res : Fml
   Res = fres γ (codedHoleys R .code (heres R ys))
 
-  use-typed : (d : Use) (v : Val) → Is U.the-row d (v ∷ []) → T (hasTy U′.mir v) × WT v
-  use-typed d v g = EL.lawful U.the-type U′.the-laws 𝓤 H A W tt .typed d (v ∷ []) g .0
+  seen-typed : (d : LookedUp) (v : Val) → Is U.the-row d (v ∷ []) → T (hasTy U′.mir v) × WT v
+  seen-typed d v g = EL.lawful U.the-type U′.the-laws 𝓤 H A W tt .typed d (v ∷ []) g .0
 
-  exits : (r : Use) → Is U.the-row r (use-vals r) → entryTells r ≡ findTold ys count c → ent 𝓤 (⋆ 𝓤 H A (‵ (flft κ q) ∷ ‵ Bor ∷ ‵ Res ∷ [])) (Post (use-val r))
+  exits : (r : LookedUp) → Is U.the-row r (seen-vals r) → entryTells r ≡ findTold ys count c → ent 𝓤 (⋆ 𝓤 H A (‵ (flft κ q) ∷ ‵ Bor ∷ ‵ Res ∷ [])) (Post (seen-val r))
   exits r g e =
       qed W (‵ (flft κ q) ∷ ‵ Bor ∷ ‵ Res ∷ []) ∵
-      suffices ! _ (ends-at 𝓤 H A find-in.ended stayed (find-in.clauses 𝓤 H A mem run) W (((κ, tt), (q, tt), tt, x, at), tt) (use-val r) r (tt, (tt, (tt, tt))) (tt, (tt, (tt, tt)))) $ says ! e $
+      suffices ! _ (ends-at 𝓤 H A find-in.ended stayed (find-in.clauses 𝓤 H A mem run) W (((κ, tt), (q, tt), tt, x, at), tt) (seen-val r) r (tt, (tt, (tt, tt))) (tt, (tt, (tt, tt)))) $ says ! e $
       nothing ! $ move ! (1 ∷ 0 ∷ []) $ join ! $ frame ! $ move ! (1 ∷ 0 ∷ []) $ fjoin ! $ pureI ! (at-slice R (x .0) (sl ∷ [])) (tt, (tt, tt)) (refl, room) $ fjoin ! $
       nothing ! $ owned ! K.the-row (Is K.the-row) (SL.makes K.the-type K′.the-plain 𝓤 H A) c _ is-c $ fjoin ! $ owned ! usize (Is usize) (uint-makes 𝓤 H A W w64) count _ (refl, gc) $ fjoin ! $ move ! (1 ∷ 0 ∷ []) $ fjoin ! $ frame ! $
       owned ! U.the-row (Is U.the-row) (EL.makes U.the-type U′.the-plain 𝓤 H A) r _ g $ done !
 
-  -- ---- the call of `better`, where d is used and e is seen
+  -- ---- the call of `better`, where the look-up came to d and e is seen
   abbrev Arg-better : Type 0
-  Arg-better = Use × (Entry × (Code × Unit {0}))
+  Arg-better = LookedUp × (Entry × (Code × Unit {0}))
 
-  abbrev a-better : Use → Entry → Arg-better
+  abbrev a-better : LookedUp → Entry → Arg-better
   a-better d e = (d, (e, (c, tt)))
 
-  abbrev to-better : Use → Entry → Better 𝓤 H A mem run .Ghost
-  to-better d e = ((tt, tt, tt, a-better d e, (use-vals d, (vals e, (vc ∷ [], tt)))), tt)
+  abbrev to-better : LookedUp → Entry → Better 𝓤 H A mem run .Ghost
+  to-better d e = ((tt, tt, tt, a-better d e, (seen-vals d, (vals e, (vc ∷ [], tt)))), tt)
 
-  asked-better : (d : Use) (e : Entry) → Is U.the-row d (use-vals d) → Is R e (vals e) → ent 𝓤 (emp 𝓤) (Better 𝓤 H A mem run .pre (to-better d e))
+  asked-better : (d : LookedUp) (e : Entry) → Is U.the-row d (seen-vals d) → Is R e (vals e) → ent 𝓤 (emp 𝓤) (Better 𝓤 H A mem run .pre (to-better d e))
   asked-better d e gd ge =
       qed W [] ∵ nothing ! $ nothing ! $ owned ! K.the-row (Is K.the-row) (SL.makes K.the-type K′.the-plain 𝓤 H A) c _ is-c $ fjoin ! $ owned ! R (Is R) (makes 𝓤 H A) e _ ge $ fjoin ! $
       owned ! U.the-row (Is U.the-row) (EL.makes U.the-type U′.the-plain 𝓤 H A) d _ gd $ fjoin ! $ move ! (1 ∷ 0 ∷ []) $ join ! $ frame ! $ done !
 
-  said-better : (d : Use) (e : Entry) (r : Use) → ent 𝓤 (ensured 𝓤 H A better.ended (better.clauses 𝓤 H A mem run) tt (a-better d e) tt r) (fact 𝓤 (r ≡ betterOf c d e))
+  said-better : (d : LookedUp) (e : Entry) (r : LookedUp) → ent 𝓤 (ensured 𝓤 H A better.ended (better.clauses 𝓤 H A mem run) tt (a-better d e) tt r) (fact 𝓤 (r ≡ betterOf c d e))
   said-better d e r = exE 𝓤 _ (λ ws. snd∗ 𝓤 (sem 𝓤 H A (lasts better.ended tt (a-better d e) ws)) (fact 𝓤 (r ≡ betterOf c d e)))
 
   module _ (𝓣 : Tables 𝓤 H) (known-smaller : Triple 𝓤 (𝓣 .C #ground·smaller) (Smaller 𝓤 H A mem run)) (known-better : Triple 𝓤 (𝓣 .C #entries·better) (Better 𝓤 H A mem run)) where
@@ -201,12 +201,12 @@ module _ {M : Type 1} (𝓤 : URA M) (H : Heap 𝓤) (A : Atoms 𝓤) (W : Given
 
       -- where the loop's test is reached with i: 0 the row, 1 _6, 2 _5, 3 _4, 4 _7, 5 _8, 6 _9, 7 _10, 8 _11, 9 _1, 10 _2, 11 _3, 12 _0, 13 the open borrow, 14 the borrow, 15 res, 16 that _0 dies, …
       abbrev Items : ℕ → List (Item 𝓤)
-      Items i = ‵ (row R q′ ys b o) ∷ ‵ (fat fullShare word l₆ 0 (vint w64 i)) ∷ ‵ (fat fullShare U′.mir l₅ 0 (use-val (u i))) ∷ ‵ (fat fullShare word l₄ 0 (vint w64 n)) ∷ ‵ (froom word l₇ 0) ∷ ‵ (froom tyBool l₈ 0)
+      Items i = ‵ (row R q′ ys b o) ∷ ‵ (fat fullShare word l₆ 0 (vint w64 i)) ∷ ‵ (fat fullShare U′.mir l₅ 0 (seen-val (u i))) ∷ ‵ (fat fullShare word l₄ 0 (vint w64 n)) ∷ ‵ (froom word l₇ 0) ∷ ‵ (froom tyBool l₈ 0)
           ∷ ‵ (froom word l₉ 0) ∷ ‵ (froom tyPtr l₁₀ 0) ∷ ‵ (froom E′.mir l₁₁ 0) ∷ ‵ (fat fullShare entries l₁ 0 sl) ∷ ‵ (fat fullShare word l₂ 0 (vint w64 count)) ∷ ‵ (fat fullShare K′.mir l₃ 0 vc) ∷ ‵ (froom U′.mir l₀ 0)
           ∷ ‵ (fobor κ q (arr-parts (shares R) (length ys) .part q′ ys b o)) ∷ ‵ Bor ∷ ‵ Res ∷ Dies
 
       abbrev Good : ℕ → Type 0
-      Good i = Is U.the-row (u i) (use-vals (u i))
+      Good i = Is U.the-row (u i) (seen-vals (u i))
 
       abbrev At : ℕ → SProp 𝓤
       At i = guard 𝓤 (Good i) (⋆ 𝓤 H A (Items i))
@@ -232,10 +232,10 @@ module _ {M : Type 1} (𝓤 : URA M) (H : Heap 𝓤) (A : Atoms 𝓤) (W : Given
           use0 W (raw (Better 𝓤 H A mem run .pre (to-better (u i) elem))) (asked-better (u i) elem good g) $
           calls-at ! (fmOf 𝓤 H (W .laws) 𝓣) (Better 𝓤 H A mem run) known-better (to-better (u i) elem)
           (and-then ! (load ! (from ! (stop !)) (look ! 3 refl)) (and-then ! (load ! (from ! (stop !)) (look ! 9 refl)) (and-then ! (load ! (from ! (stop !)) (look ! 12 refl)) (no-more !)))) (λ v.
-          use1 W (later (some (λ (r : Use). (‵ ftrue ⊛ ‵ (U.the-row .own r (v ∷ []))) ⊛ raw (ensured 𝓤 H A better.ended (better.clauses 𝓤 H A mem run) tt (a-better (u i) elem) tt r)))) (id⊢ 𝓤 _) $ await ! tt $ pick ! (λ r.
+          use1 W (later (some (λ (r : LookedUp). (‵ ftrue ⊛ ‵ (U.the-row .own r (v ∷ []))) ⊛ raw (ensured 𝓤 H A better.ended (better.clauses 𝓤 H A mem run) tt (a-better (u i) elem) tt r)))) (id⊢ 𝓤 _) $ await ! tt $ pick ! (λ r.
           split ! $ move ! (1 ∷ []) $ use1 W (raw (fact 𝓤 (r ≡ betterOf c (u i) elem))) (said-better (u i) elem r) $ heard ! (r ≡ betterOf c (u i) elem) (λ is. split ! $ drop ! $
-          rewrite ! 0 (λ (d : Use). ‵ (U.the-row .own d (v ∷ []))) (is ∙ used-next c ys i within) refl $ facts ! U.the-row (Is U.the-row) (shows 𝓤 H A U.the-row) (u (suc i)) (v ∷ []) (λ is-v.
-          land ! (from ! (stop !)) (store ! 2 refl (use-typed (u (suc i)) v is-v)) $
+          rewrite ! 0 (λ (d : LookedUp). ‵ (U.the-row .own d (v ∷ []))) (is ∙ looked-next ys i within c) refl $ facts ! U.the-row (Is U.the-row) (shows 𝓤 H A U.the-row) (u (suc i)) (v ∷ []) (λ is-v.
+          land ! (from ! (stop !)) (store ! 2 refl (seen-typed (u (suc i)) v is-v)) $
           rewrite ! 2 (λ (w : Val). ‵ (fat fullShare U′.mir l₅ 0 w)) (ap only (EL.tells U.the-type U′.the-laws (u (suc i)) (v ∷ []) is-v)) refl $
           assigns-last ! (bin ! (load ! (from ! (stop !)) (look ! 1 refl)) (lit ! tt) (record { fits = next-fits n-fits small })) (from ! (stop !)) (store ! 1 refl (tt, record { fits = next-fits n-fits small })) $
           forget ! 5 refl $ forget ! 6 refl $ forget ! 7 refl $ forget ! 8 refl $
@@ -255,7 +255,7 @@ module _ {M : Type 1} (𝓤 : URA M) (H : Heap 𝓤) (A : Atoms 𝓤) (W : Given
           assigns ! (bin ! (load ! (from ! (stop !)) (look ! 1 refl)) (load ! (from ! (stop !)) (look ! 3 refl)) tt) (from ! (stop !)) (init ! 5 refl (tt, tt)) $
           rewrite ! 5 (λ (t : Bool). ‵ (fat fullShare tyBool l₈ 0 (vbool t))) (le-ltb n n (le-refl n)) refl $
           leaves-loop ! (load ! (from ! (stop !)) (look ! 5 refl)) $ exec ! C Λ En mir.t-6 (atRet En Post) $
-          assigns ! (of-opd ! (load ! (from ! (stop !)) (look ! 2 refl))) (from ! (stop !)) (init ! 12 refl (use-typed (u n) (use-val (u n)) good)) $
+          assigns ! (of-opd ! (load ! (from ! (stop !)) (look ! 2 refl))) (from ! (stop !)) (init ! 12 refl (seen-typed (u n) (seen-val (u n)) good)) $
           move ! (0 ∷ 13 ∷ []) $ shuts-slice ! tt R q′ ys b o $
           -- [the token; _6; _5; _4; _7; _8; _9; _10; _11; _1; _2; _3; _0; the borrow; res; that _0 dies; …]
           returns ! (look ! 12 refl) $ forget ! 1 refl $ forget ! 2 refl $ forget ! 3 refl $ forget ! 5 refl $ forget ! 9 refl $ forget ! 10 refl $ forget ! 11 refl $ forget ! 12 refl $
@@ -264,7 +264,7 @@ module _ {M : Type 1} (𝓤 : URA M) (H : Heap 𝓤) (A : Atoms 𝓤) (W : Given
 
       loops : ent 𝓤 (⋆ 𝓤 H A (Items 0)) (Wp 𝓤 H C Λ En mir.t-5 (atReturn 𝓤 H En Post))
       loops =
-          via 𝓤 (At 0) (guardI 𝓤 (Good 0) (⋆ 𝓤 H A (Items 0)) (subst (λ (d : Use). Is U.the-row d (use-vals d)) (sym (used-none c)) nothing-is))
+          via 𝓤 (At 0) (guardI 𝓤 (Good 0) (⋆ 𝓤 H A (Items 0)) (subst (λ (d : LookedUp). Is U.the-row d (seen-vals d)) (sym (looked-none c)) nothing-is))
           (counts 𝓤 H A W 𝓣 En mir.turn-1 Left n At more ends)
 
     walk-in : T (hasTy K′.mir vc) × WT vc → ent 𝓤 (onEntry 𝓤 H A find-in.signature (κ, tt) (q, tt) x at) (WpFn 𝓤 H C Λ fn (sl ∷ vint w64 count ∷ vc ∷ []) Post)
@@ -279,9 +279,9 @@ module _ {M : Type 1} (𝓤 : URA M) (H : Heap 𝓤) (A : Atoms 𝓤) (W : Given
         split ! $ move ! (1 ∷ []) $ use1 W (raw (fact 𝓤 (m ≡ n))) (S.said 𝓤 H A mem run count (length ys) m) $ heard ! (m ≡ n) (λ is. split ! $ drop ! $
         rewrite ! 0 (λ (d : ℕ). ‵ (usize .own d (v ∷ []))) is refl $ facts ! usize (Is usize) (shows 𝓤 H A usize) n (v ∷ []) (λ is-v.
         land ! (from ! (stop !)) (init ! 14 refl (uint-lawful 𝓤 H A W w64 .typed n (v ∷ []) is-v .0)) $ rewrite ! 14 (λ (w : Val). ‵ (fat fullShare word l₄ 0 w)) (ap only (uint-tells w64 n (v ∷ []) is-v)) refl $
-        -- nothing is used yet, the slice is looked into, and the loop starts
-        assigns ! (agg ! (and-then ! (lit ! tt) (no-more !))) (from ! (stop !)) (init ! 12 refl (use-typed Nothing (use-val Nothing) nothing-is)) $
-        rewrite ! 12 (λ (d : Use). ‵ (fat fullShare U′.mir l₅ 0 (use-val d))) (sym (used-none c)) refl $
+        -- nothing is seen yet, the slice is looked into, and the loop starts
+        assigns ! (agg ! (and-then ! (lit ! tt) (no-more !))) (from ! (stop !)) (init ! 12 refl (seen-typed Nothing (seen-val Nothing) nothing-is)) $
+        rewrite ! 12 (λ (d : LookedUp). ‵ (fat fullShare U′.mir l₅ 0 (seen-val d))) (sym (looked-none c)) refl $
         assigns ! (of-opd ! (lit ! tt)) (from ! (stop !)) (init ! 10 refl (tt, record { fits = lit< tt })) $
         forget ! 8 refl $ move ! (25 ∷ []) $ fsplit ! $ fsplit ! $ drop ! $ fsplit ! $ move ! (27 ∷ []) $ split ! $ move ! (3 ∷ 0 ∷ []) $
         looks-slice ! tt R (Is R) (shows 𝓤 H A R) vals tells (copies 𝓤 H A W) ys b o (λ q′.

@@ -13,12 +13,16 @@ find-known-requires c κs = given-room _ _ _ _ _ _ _ _ (c .before .before .befor
 enum-known-entry : tie.Need-enum-known-entry
 enum-known-entry c = search needs
 
+same-code-requires : tie.Need-same-code-requires
+same-code-requires c κs = search needs
+
 find-rows-requires : tie.Need-find-rows-requires
 find-rows-requires c κs =
-    let g = c .before .before .before .before .before .before .before .before .before .before .pre .0 .1 in
-    let h = given-high _ _ _ _ _ _ _ _ g in (
-      (h .0, omega (arith, h .1, c .before .before .before .before .before .before .before .before .before .before .pre .1)),
-      (given-standing _ _ _ _ _ _ _ _ (c .before .before .before .before .before .before .before .before .before .before .args .code) _ (λ es n l. sym (c .before .before .entry .given .1) ∙ c .before .before .before .before .find-known .ensures es n l) g, given-marked _ _ _ _ _ _ _ _ (c .before .before .before .before .before .before .before .before .before .before .args .code) _ (λ es n l. sym (c .before .before .entry .given .1) ∙ c .before .before .before .before .find-known .ensures es n l) g),
+    let g = c .before .before .before .before .before .before .before .before .before .before .before .pre .0 .1 in
+    let h = given-high _ _ _ _ _ _ _ _ g in
+    let code = c .before .before .before .before .before .before .before .before .before .before .before .args .code in (
+      (h .0, omega (arith, h .1, c .before .before .before .before .before .before .before .before .before .before .before .pre .1)),
+      (given-standing _ _ _ _ _ _ _ _ code _ (λ es n l. sym (c .before .before .before .entry .given .1) ∙ c .before .before .before .before .before .find-known .ensures es n l) g, given-marked _ _ _ _ _ _ _ _ code _ (λ es n l. sym (c .before .before .before .entry .given .1) ∙ c .before .before .before .before .before .find-known .ensures es n l) g),
     )
 
 enum-told : tie.Need-enum-told
@@ -28,7 +32,7 @@ same-length : tie.Need-same-length
 same-length c = search needs
 
 returns : tie.Need-returns
-returns c = λ source g. given-chosen source _ _ _ _ _ _ _ (c .before .before .before .before .before .before .before .before .before .before .before .before .before .args .code) _ (λ es n l. sym (c .before .before .before .before .before .entry .given .1) ∙ c .before .before .before .before .before .before .before .find-known .ensures es n l) _ (c .before .before .find-rows .ensures) g
+returns c = λ source g. rw (c .before .before .before .before .same-code .ensures) (given-chosen source _ _ _ _ _ _ _ (c .before .before .before .before .before .before .before .before .before .before .before .before .before .before .args .code) _ (λ es n l. sym (c .before .before .before .before .before .before .entry .given .1) ∙ c .before .before .before .before .before .before .before .before .find-known .ensures es n l) _ (c .before .before .find-rows .ensures) g)
 
 returns-2 : tie.Need-returns-2
 returns-2 c = λ source g. given-nothing source _ _ _ _ _ _ _ (c .before .before .before .before .before .before .before .before .args .code) (λ es n l. sym (c .enum-told .given .1) ∙ c .before .before .find-known .ensures es n l) _ g
@@ -39,6 +43,7 @@ choose-spec =
     (tie.spec
     find-known-requires
     enum-known-entry
+    same-code-requires
     find-rows-requires
     enum-told
     same-length

@@ -8,8 +8,8 @@ use lib.ListN.{length, take}
 use lib.Seq.{length-take-le}
 use borrow.Author.Needs.{needs}
 use Rattle.ground.specs.Limits.{maxLineWidth, minScratch, minStackedScratch}
-use Rattle.drawing.specs.Drawing.{textCodes, lineOf}
-use Rattle.drawing.specs.Steps.{Reached}
+use Rattle.drawing.specs.Drawing.{textCodes}
+use Rattle.drawing.specs.Steps.{TextDrawn}
 use Rattle.twolines.proofs.HalfLaws.{second-long, first-half, second-half, same-long}
 use Rattle.twolines.proofs.join_both.Statement.{statement}
 use Rattle.twolines.proofs.join_both.Tie as tie
@@ -58,12 +58,13 @@ returns c =
     let one = c .before .before .before .before .before .before .join-text in
     let two = c .before .before .join-text2 in
     let long : minScratch ≤ length (a .scratch .now) = omega (arith, s .pre .1 .1) in
-    λ source given control held. (
-      subst (λ (area : List ℕ). Reached (a .mode) (a .height) maxLineWidth (one .result) area (lineOf (a .mode) (a .height) source (textCodes (held .commands) (held .count) (a .upper .now))))
-          (sym (first-half minScratch (a .scratch .now) (one .last .0) (two .last .0) long (one .kept .0) (two .kept .0))) (one .ensures source given control held),
-      subst (λ (area : List ℕ). Reached (a .mode) (a .height) maxLineWidth (two .result) area (lineOf (a .mode) (a .height) source (textCodes (held .commands) (held .count) (a .lower .now))))
-          (sym (second-half minScratch (a .scratch .now) (one .last .0) (two .last .0) long (one .kept .0) (two .kept .0))) (two .ensures source given control held),
-    )
+    λ source given control held.
+    record {
+      first = subst (TextDrawn (a .mode) (a .height) maxLineWidth source (textCodes (held .commands) (held .count) (a .upper .now)) (one .result))
+          (sym (first-half minScratch (a .scratch .now) (one .last .0) (two .last .0) long (one .kept .0) (two .kept .0))) (one .ensures source given control held);
+      second = subst (TextDrawn (a .mode) (a .height) maxLineWidth source (textCodes (held .commands) (held .count) (a .lower .now)) (two .result))
+          (sym (second-half minScratch (a .scratch .now) (one .last .0) (two .last .0) long (one .kept .0) (two .kept .0))) (two .ensures source given control held);
+    }
 
 pub join-both-spec : {M : Type 1} → statement M
 join-both-spec =

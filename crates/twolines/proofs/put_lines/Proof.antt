@@ -9,7 +9,7 @@ use lib.Seq.{length-take-le}
 use borrow.Author.Needs.{needs}
 use Rattle.ground.specs.Limits.{maxLineWidth, minScratch}
 use Rattle.stack.specs.Placing.{PlacedIn}
-use Rattle.drawing.specs.Steps.{Reached}
+use Rattle.drawing.specs.Steps.{TextDrawn}
 use Rattle.twolines.proofs.HalfLaws.{part-behind}
 use Rattle.twolines.proofs.OutputLaws.{placed-in, upper-wide, lower-wide, both-put}
 use Rattle.twolines.proofs.put_lines.Statement.{statement}
@@ -33,9 +33,9 @@ same-length c = search needs
 
 returns : tie.Need-returns
 returns c =
-    let s = c .before .before .before .before .before .before .before .before in
+    let s = c .before .before .before .before .before .before .before .before .before .before in
     let a = s .args in
-    λ x z first second. upper-wide (a .mode) (a .vertical) (a .height) _ _ (upper s) (lower s) x z first second _ _ _ (c .before .before .before .before .if1 .taken) (c .before .before .refuse .ensures)
+    λ source us ls so are. upper-wide (a .mode) (a .vertical) (a .height) source us ls (a .drawn) (upper s) (lower s) (so .first) (so .second) _ _ _ (c .before .before .before .before .if1 .taken) (c .before .before .refuse .ensures)
 
 refuse-requires-2 : tie.Need-refuse-requires-2
 refuse-requires-2 c κs = search needs
@@ -45,9 +45,9 @@ same-length-2 c = search needs
 
 returns-2 : tie.Need-returns-2
 returns-2 c =
-    let s = c .before .before .before .before .before .before .before .before .before .before in
+    let s = c .before .before .before .before .before .before .before .before .before .before .before .before in
     let a = s .args in
-    λ x z first second. lower-wide (a .mode) (a .vertical) (a .height) _ _ (upper s) (lower s) x z first second _ _ _ (c .before .before .before .before .if2 .taken) (c .before .before .refuse2 .ensures)
+    λ source us ls so are. lower-wide (a .mode) (a .vertical) (a .height) source us ls (a .drawn) (upper s) (lower s) (so .first) (so .second) _ _ _ (c .before .before .before .before .if2 .taken) (c .before .before .refuse2 .ensures)
 
 line-place-requires : tie.Need-line-place-requires
 line-place-requires c κs = c .before .before .before .if1 .left
@@ -56,7 +56,7 @@ line-place-requires-2 : tie.Need-line-place-requires-2
 line-place-requires-2 c κs = c .before .before .if2 .left
 
 slice-aggregate-upper : tie.Need-slice-aggregate-upper
-slice-aggregate-upper c = sym (upper-long (c .before .before .before .before .before .before .before .before .before .before))
+slice-aggregate-upper c = sym (upper-long (c .before .before .before .before .before .before .before .before .before .before .before .before))
 
 sub-lower : tie.Need-sub-lower
 sub-lower c = search needs
@@ -69,7 +69,7 @@ part-lower-end c = search needs
 
 put-stack-requires : tie.Need-put-stack-requires
 put-stack-requires c κs =
-    let s = c .before .before .before .before .before .before .before .before .before .before .before .before in
+    let s = c .before .before .before .before .before .before .before .before .before .before .before .before .before .before in
     let a = s .args in
     let u = c .before .before .before .before .line-place in
     let l = c .before .before .before .line-place2 in
@@ -82,16 +82,19 @@ put-stack-requires c κs =
       ),
     )
 
+with-counts-requires : tie.Need-with-counts-requires
+with-counts-requires c κs = search needs
+
 same-length-3 : tie.Need-same-length-3
 same-length-3 c = search needs
 
 returns-3 : tie.Need-returns-3
 returns-3 c =
-    let s = c .before .before .before .before .before .before .before .before .before .before .before .before .before .before .before in
+    let s = c .before .before .before .before .before .before .before .before .before .before .before .before .before .before .before .before .before .before in
     let a = s .args in
-    λ x z first second.
-    both-put (a .mode) (a .vertical) (a .height) _ _ (upper s) (take (length (a .scratch .now) - minScratch) (lower s)) x z first
-    (subst (λ (area : List ℕ). Reached (a .mode) (a .height) maxLineWidth (a .widths .lower) area z) (sym (part-behind minScratch (a .scratch .now))) second) _ _ _ (c .before .before .before .before .before .before .before .before .before .before .before .if1 .left) (c .before .before .before .before .before .before .before .before .before .if2 .left) _ _ (c .before .before .before .before .before .before .before .line-place .ensures) (c .before .before .before .before .before .before .line-place2 .ensures) (c .before .before .put-stack .ensures)
+    λ source us ls so are.
+    both-put (a .mode) (a .vertical) (a .height) source us ls (a .drawn) (upper s) (take (length (a .scratch .now) - minScratch) (lower s)) (so .first)
+    (subst (TextDrawn (a .mode) (a .height) maxLineWidth source ls (a .drawn .lower)) (sym (part-behind minScratch (a .scratch .now))) (so .second)) _ _ _ (c .before .before .before .before .before .before .before .before .before .before .before .before .if1 .left) (c .before .before .before .before .before .before .before .before .before .before .if2 .left) _ _ (c .before .before .before .before .before .before .before .before .line-place .ensures) (c .before .before .before .before .before .before .before .line-place2 .ensures) _ (c .with-counts .ensures .0) (a .counts) are (c .with-counts .ensures .1) (c .before .before .before .put-stack .ensures)
 
 pub put-lines-spec : {M : Type 1} → statement M
 put-lines-spec =
@@ -110,5 +113,6 @@ put-lines-spec =
     part-lower-start
     part-lower-end
     put-stack-requires
+    with-counts-requires
     same-length-3
     returns-3)

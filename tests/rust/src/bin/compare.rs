@@ -4,7 +4,7 @@ use std::process::exit;
 use std::time::Instant;
 use wattleslate_tests::met::{self, Drawing, Met};
 use wattleslate_tests::random::Random;
-use wattleslate_tests::{calls, cases, inputs, plain, stacks};
+use wattleslate_tests::{calls, cases, inputs, plain, replaced, stacks};
 
 /// How often a call was made and how often each refusal came; 0 is success.
 struct Count {
@@ -142,7 +142,7 @@ fn cut(r: &mut Random, font: &[u8], control: &[u8], text: &mut Vec<u8>) {
     text.truncate(if r.one_in(3) { wide } else { fits });
 }
 
-fn compare_draw(r: &mut Random, font: &[u8], control: &[u8], text: &[u8], count: &mut Count) {
+fn compare_draw(r: &mut Random, font: &[u8], control: &[u8], text: &[u8], count: &mut Count, met: &mut Met) {
     let (scratch_room, out_room) = rooms(r, 32000, |s, o| plain::draw::draw(font, control, text, s, o));
     let (scratch, out) = (r.bytes(scratch_room), r.bytes(out_room));
     let (mut s, mut a, mut t, mut b) = (scratch.clone(), out.clone(), scratch, out);
@@ -159,6 +159,7 @@ fn compare_draw(r: &mut Random, font: &[u8], control: &[u8], text: &[u8], count:
         differ("draw", &input, (x, &[&a, &s]), (y, &[&b, &t]));
     }
     count.add(x);
+    replaced::draw(font, control, text, x, scratch_room, met);
 }
 
 fn compare_draw_stacked(r: &mut Random, font: &[u8], control: &[u8], [upper, lower]: [&[u8]; 2], count: &mut Count, met: &mut Met) {
@@ -183,7 +184,7 @@ fn compare_draw_stacked(r: &mut Random, font: &[u8], control: &[u8], [upper, low
 }
 
 /// What one round compares: ten joins and stacks, a font, three control files, a line and two lines drawn with the font.
-fn round(r: &mut Random, mut font: Vec<u8>, damaged: bool, counts: &mut [Count; 6], cases: &mut [Met; 2]) {
+fn round(r: &mut Random, mut font: Vec<u8>, damaged: bool, counts: &mut [Count; 6], cases: &mut [Met; 3]) {
     for _ in 0..10 {
         compare_join(r, &mut counts[0]);
         compare_stack(r, &mut counts[4], &mut cases[0]);
@@ -200,7 +201,7 @@ fn round(r: &mut Random, mut font: Vec<u8>, damaged: bool, counts: &mut [Count; 
     if text.len() > 100 && r.one_in(2) {
         cut(r, &font, control, &mut text);
     }
-    compare_draw(r, &font, control, &text, &mut counts[3]);
+    compare_draw(r, &font, control, &text, &mut counts[3], &mut cases[2]);
     let mut texts = inputs::two_texts(r);
     for text in texts.iter_mut().filter(|text| text.len() > 100) {
         if !r.one_in(4) {
@@ -223,7 +224,11 @@ fn main() {
     let mut r = Random::new(seed);
     let console = std::fs::read(concat!(env!("CARGO_MANIFEST_DIR"), "/../../fonts/console.flf")).expect("fonts/console.flf");
     let mut counts = CALLS.map(Count::new);
-    let mut cases = [Met::new("stacks met", met::STACKS), Met::new("drawings of two lines met", met::DRAWINGS)];
+    let mut cases = [
+        Met::new("stacks met", met::STACKS),
+        Met::new("drawings of two lines met", met::DRAWINGS),
+        Met::new("bytes that are not in the font met", replaced::CASES),
+    ];
     for k in 0..times {
         let font = if k % 8 == 0 { console.clone() } else { inputs::font(&mut r) };
         round(&mut r, font, k % 32 == 0, &mut counts, &mut cases);

@@ -1,7 +1,6 @@
 //! Drawing a line of text, and two of them one above the other: "9 for all working areas, the font's, the control file's, 15, 16, then 9 for the output".
 use super::control::{self, Control};
-use super::font::{self, Character, Font};
-use super::header::Header;
+use super::font::{self, Character, Font, LookUp};
 use super::join::{put, Block};
 use super::pairs::Mode;
 use super::stack;
@@ -12,13 +11,23 @@ fn block(font: &[u8], character: &Character) -> Block {
     Block { width: character.width, rows }
 }
 
+/// What is found for a text byte: "drawing maps each text byte's code, looks it up".
+pub fn look_up<'a>(font: &'a Font, control: &Control, byte: u8) -> LookUp<'a> {
+    font.look_up(control.map(byte as i32))
+}
+
+/// "How many text bytes are in the second and in the third group": stood in, and nothing.
+fn replaced(font: &Font, control: &Control, text: &[u8]) -> [usize; 2] {
+    let count = |group: fn(&LookUp) -> bool| text.iter().filter(|byte| group(&look_up(font, control, **byte))).count();
+    [count(|found| matches!(found, LookUp::StoodIn(_))), count(|found| matches!(found, LookUp::Nothing))]
+}
+
 /// The line, or one wider than 1,000 as soon as there is one: a line never becomes narrower.
 pub fn line(bytes: &[u8], font: &Font, control: &Control, text: &[u8]) -> Block {
     let mode = Mode { layout: font.header.layout, right_to_left: font.header.right_to_left, hardblank: font.header.hardblank };
     let mut line = Block { width: 0, rows: vec![Vec::new(); font.header.height] };
     for byte in text {
-        let code = control.map(*byte as i32);
-        if let Some(character) = font.look_up(code) {
+        if let Some(character) = look_up(font, control, *byte).character() {
             line = put(mode, &line, &block(bytes, character)).1;
         }
         if line.width > 1000 {
@@ -28,8 +37,15 @@ pub fn line(bytes: &[u8], font: &Font, control: &Control, text: &[u8]) -> Block 
     line
 }
 
+/// The files that were read, and the lines of some texts.
+struct Lines {
+    font: Font,
+    control: Control,
+    lines: Vec<Block>,
+}
+
 /// The lines of some texts, in one font: "9 for all working areas, the font's, the control file's, 15, 16", each of the last two for any of the texts.
-fn lines(bytes: &[u8], file: &[u8], texts: &[&[u8]], scratch: usize) -> Result<(Header, Vec<Block>), Refusal> {
+fn lines(bytes: &[u8], file: &[u8], texts: &[&[u8]], scratch: usize) -> Result<Lines, Refusal> {
     if scratch < 32000 * texts.len() {
         return refuse(9, 0);
     }
@@ -42,7 +58,7 @@ fn lines(bytes: &[u8], file: &[u8], texts: &[&[u8]], scratch: usize) -> Result<(
     if lines.iter().any(|line| line.width > 1000) {
         return refuse(16, 0);
     }
-    Ok((font.header, lines))
+    Ok(Lines { font, control, lines })
 }
 
 /// "Each row .., then LF", and 9 for an output that has no room for them.
@@ -56,20 +72,21 @@ fn output(block: &Block, out: &mut [u8]) -> Result<(), Refusal> {
 }
 
 fn answer(bytes: &[u8], file: &[u8], text: &[u8], scratch: usize, out: &mut [u8]) -> Result<[usize; 3], Refusal> {
-    let (header, lines) = lines(bytes, file, &[text], scratch)?;
+    let Lines { font, control, lines } = lines(bytes, file, &[text], scratch)?;
     let width = lines[0].width;
-    output(&stack::made_ready(&lines[0], header.hardblank, width), out)?;
-    Ok([0, 0, width])
+    output(&stack::made_ready(&lines[0], font.header.hardblank, width), out)?;
+    let [stood_in, nothing] = replaced(&font, &control, text);
+    Ok([nothing, stood_in, width])
 }
 
 fn stacked_answer(bytes: &[u8], file: &[u8], texts: [&[u8]; 2], scratch: usize, out: &mut [u8]) -> Result<[usize; 3], Refusal> {
-    let (header, lines) = lines(bytes, file, &texts, scratch)?;
-    let (overlap, result) = stack::put(header.vertical(), header.hardblank, &lines[0], &lines[1]);
+    let Lines { font, lines, .. } = lines(bytes, file, &texts, scratch)?;
+    let (overlap, result) = stack::put(font.header.vertical(), font.header.hardblank, &lines[0], &lines[1]);
     output(&result, out)?;
     Ok([overlap, result.rows.len(), result.width])
 }
 
-/// The width, with zeros behind the output and all through the scratch.
+/// How many text bytes drew nothing, how many were stood in, and the width, with zeros behind the output and all through the scratch.
 pub fn draw(font: &[u8], control: &[u8], text: &[u8], scratch: &mut [u8], out: &mut [u8]) -> u64 {
     scratch.fill(0);
     out.fill(0);

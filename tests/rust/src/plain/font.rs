@@ -105,10 +105,30 @@ pub fn read(font: &[u8]) -> Result<Font, Refusal> {
     Ok(Font { header, characters })
 }
 
+/// "The look-up must say which of three it was: found as itself, stood in by code 0, or nothing."
+pub enum LookUp<'a> {
+    Itself(&'a Character),
+    StoodIn(&'a Character),
+    Nothing,
+}
+
+impl<'a> LookUp<'a> {
+    pub fn character(&self) -> Option<&'a Character> {
+        match self {
+            LookUp::Itself(character) | LookUp::StoodIn(character) => Some(character),
+            LookUp::Nothing => None,
+        }
+    }
+}
+
 impl Font {
-    /// "When codes repeat, the last is used. Otherwise the character with code 0 stands in."
-    pub fn look_up(&self, code: i32) -> Option<&Character> {
+    /// "When codes repeat, the last is used. Otherwise the character with code 0 stands in; if there is none, nothing is drawn."
+    pub fn look_up(&self, code: i32) -> LookUp<'_> {
         let last = |code: i32| self.characters.iter().rev().find(|c| c.code == code);
-        last(code).or_else(|| last(0))
+        match (last(code), last(0)) {
+            (Some(character), _) => LookUp::Itself(character),
+            (None, Some(character)) => LookUp::StoodIn(character),
+            (None, None) => LookUp::Nothing,
+        }
     }
 }

@@ -11,8 +11,8 @@ slice-aggregate-draw-line c = search needs
 draw-line-requires : tie.Need-draw-line-requires
 draw-line-requires c κs = search needs
 
-enum-known-w : tie.Need-enum-known-w
-enum-known-w c = search needs
+enum-known-width : tie.Need-enum-known-width
+enum-known-width c = search needs
 
 slice-aggregate-print-rows : tie.Need-slice-aggregate-print-rows
 slice-aggregate-print-rows c = search needs
@@ -21,7 +21,7 @@ print-rows-requires : tie.Need-print-rows-requires
 print-rows-requires c κs =
     let k = c .before .before .before .before .before .before .before in
     let a = k .before .before .before .before .before .before .before .before .before .before in
-    rows-answered (a .args .font .now) (a .pre .0 .0) (a .args .text .now) (a .args .codes .now) (a .args .starts .now) (a .args .widths .now) (a .args .places .now) (a .args .stages .now) (a .args .firsts .now) (a .args .lasts .now) (a .args .news .now) _ _ _ (a .args .files) (a .pre .0 .1) (k .draw-line .result) _ (c .before .before .w .given .1) (k .draw-line .ensures (a .pre .0 .0) (a .pre .0 .1)) (k .draw-line .kept .0)
+    rows-answered (a .args .font .now) (a .pre .0 .0) (a .args .text .now) (a .args .codes .now) (a .args .starts .now) (a .args .widths .now) (a .args .places .now) (a .args .stages .now) (a .args .firsts .now) (a .args .lasts .now) (a .args .news .now) _ _ _ _ (a .args .files) (a .pre .0 .1) (k .draw-line .result) _ (c .before .before .width .given .1) (k .draw-line .ensures (a .pre .0 .0) (a .pre .0 .1)) (k .draw-line .kept .0)
 
 enum-known-r : tie.Need-enum-known-r
 enum-known-r c = search needs
@@ -47,7 +47,7 @@ print-wide-spec =
     (tie.spec
     slice-aggregate-draw-line
     draw-line-requires
-    enum-known-w
+    enum-known-width
     slice-aggregate-print-rows
     print-rows-requires
     enum-known-r

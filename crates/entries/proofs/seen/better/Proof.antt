@@ -12,23 +12,23 @@ same-code-requires c κs = search needs
 returns : tie.Need-returns
 returns c = better-own _ _ _ (sym (c .before .same-code .ensures) ∙ c .if1 .taken)
 
-has-code-requires : tie.Need-has-code-requires
-has-code-requires c κs = search needs
+is-found-requires : tie.Need-is-found-requires
+is-found-requires c κs = search needs
 
 returns-2 : tie.Need-returns-2
-returns-2 c = better-before _ _ _ (sym (c .before .before .before .same-code .ensures) ∙ c .before .before .if1 .left) (sym (c .before .has-code .ensures) ∙ c .if2 .taken)
+returns-2 c = better-before _ _ _ (sym (c .before .before .before .same-code .ensures) ∙ c .before .before .if1 .left) (sym (c .before .is-found .ensures) ∙ c .if2 .taken)
 
 same-code-requires-2 : tie.Need-same-code-requires-2
 same-code-requires-2 c κs = search needs
 
 returns-3 : tie.Need-returns-3
 returns-3 c =
-    better-zero _ _ _ (sym (c .before .before .before .before .before .same-code .ensures) ∙ c .before .before .before .before .if1 .left) (sym (c .before .before .before .has-code .ensures) ∙ c .before .before .if2 .left)
+    better-zero _ _ _ (sym (c .before .before .before .before .before .same-code .ensures) ∙ c .before .before .before .before .if1 .left) (sym (c .before .before .before .is-found .ensures) ∙ c .before .before .if2 .left)
     (sym (c .before .same-code2 .ensures) ∙ c .if3 .taken)
 
 returns-4 : tie.Need-returns-4
 returns-4 c =
-    better-none _ _ _ (sym (c .before .before .before .before .before .same-code .ensures) ∙ c .before .before .before .before .if1 .left) (sym (c .before .before .before .has-code .ensures) ∙ c .before .before .if2 .left)
+    better-none _ _ _ (sym (c .before .before .before .before .before .same-code .ensures) ∙ c .before .before .before .before .if1 .left) (sym (c .before .before .before .is-found .ensures) ∙ c .before .before .if2 .left)
     (sym (c .before .same-code2 .ensures) ∙ c .if3 .left)
 
 pub better-spec : {M : Type 1} → statement M
@@ -37,7 +37,7 @@ better-spec =
     (tie.spec
     same-code-requires
     returns
-    has-code-requires
+    is-found-requires
     returns-2
     same-code-requires-2
     returns-3

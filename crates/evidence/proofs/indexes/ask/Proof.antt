@@ -56,9 +56,9 @@ use Rattle.subchars.proofs.Code.Laws as K′
 use Rattle.chars.specs.declared.Entry.{Entry}
 use Rattle.chars.proofs.Entry as E
 use Rattle.chars.proofs.Entry.Laws as E′
-use Rattle.reader.specs.declared.Use.{Use}
-use Rattle.reader.proofs.Use as U
-use Rattle.reader.proofs.Use.Laws as U′
+use Rattle.reader.specs.declared.LookedUp.{LookedUp}
+use Rattle.reader.proofs.LookedUp as U
+use Rattle.reader.proofs.LookedUp.Laws as U′
 use Rattle.reader.specs.declared.FontAnswer.{FontAnswer}
 use Rattle.entries.specs.Filling.{zeroEntry}
 use Rattle.reader.proofs.FontAnswer as F
@@ -135,11 +135,11 @@ same-fn = refl
 abbrev Last : Type 0
 Last = Unit {0} × (List Entry × Unit {0})
 
-abbrev asked : FontAnswer → Use → Entry → Asked
-asked r u e = record { answer = r; used = u; entry = e }
+abbrev asked : FontAnswer → LookedUp → Entry → Asked
+asked r u e = record { answer = r; looked = u; entry = e }
 
 -- what was answered is of its type
-asked-is : (r : FontAnswer) (v₁ : Val) → Is F.the-row r (v₁ ∷ []) → (u : Use) (v₂ : Val) → Is U.the-row u (v₂ ∷ []) → (e : Entry) → Is R e (vals e) → Is D.the-row (asked r u e) (SL.vals D.the-type D′.the-laws (asked r u e))
+asked-is : (r : FontAnswer) (v₁ : Val) → Is F.the-row r (v₁ ∷ []) → (u : LookedUp) (v₂ : Val) → Is U.the-row u (v₂ ∷ []) → (e : Entry) → Is R e (vals e) → Is D.the-row (asked r u e) (SL.vals D.the-type D′.the-laws (asked r u e))
 asked-is r v₁ is-r u v₂ is-u e is-e =
     SL.owes D.the-type D′.the-laws (asked r u e)
     (subst (Is F.the-row r) (EL.tells F.the-type F′.the-laws r (v₁ ∷ []) is-r) is-r, (subst (Is U.the-row u) (EL.tells U.the-type U′.the-laws u (v₂ ∷ []) is-u) is-u, (is-e, tt)))
@@ -307,7 +307,7 @@ module _ {M : Type 1} (𝓤 : URA M) (H : Heap 𝓤) (A : Atoms 𝓤) (W : Given
         move ! (2 ∷ 0 ∷ []) $ use2 W (raw (FindIn 𝓤 H A mem run .pre (to-find l₆ ν′ δ′ (ws .1 .0)))) (asked-find l₆ ν′ δ′ (ws .1 .0)) $
         -- [what `find_in` asks; the lender's part; the font's token; the rest; what the font owns; _18; …]
         calls-at ! fm (FindIn 𝓤 H A mem run) known-find (to-find l₆ ν′ δ′ (ws .1 .0)) (and-then ! (load ! (from ! (stop !)) (look ! 13 refl)) (and-then ! (load ! (from ! (stop !)) (look ! 34 refl)) (and-then ! (load ! (from ! (stop !)) (look ! 32 refl)) (no-more !)))) (λ v₂.
-        use1 W (later (some (λ (u : Use). ((‵ (flft (ν′ ∷ []) fullShare) ⊛ ‵ ftrue) ⊛ ‵ (U.the-row .own u (v₂ ∷ []))) ⊛ raw (ensured 𝓤 H A find-in.ended (find-in.clauses 𝓤 H A mem run) (ν′ ∷ [], tt) (a-find l₆ ν′ δ′ (ws .1 .0)) tt u)))) (id⊢ 𝓤 _) $ await ! tt $ pick ! (λ u.
+        use1 W (later (some (λ (u : LookedUp). ((‵ (flft (ν′ ∷ []) fullShare) ⊛ ‵ ftrue) ⊛ ‵ (U.the-row .own u (v₂ ∷ []))) ⊛ raw (ensured 𝓤 H A find-in.ended (find-in.clauses 𝓤 H A mem run) (ν′ ∷ [], tt) (a-find l₆ ν′ δ′ (ws .1 .0)) tt u)))) (id⊢ 𝓤 _) $ await ! tt $ pick ! (λ u.
         split ! $ move ! (1 ∷ []) $ drop-item ! $ split ! $ move ! (1 ∷ []) $ facts ! U.the-row (Is U.the-row) (shows 𝓤 H A U.the-row) u (v₂ ∷ []) (λ is-u.
         land ! (from ! (stop !)) (init ! 25 refl (EL.lawful U.the-type U′.the-laws 𝓤 H A W tt .typed u (v₂ ∷ []) is-u .0)) $ rewrite ! 25 (λ (w : Val). ‵ (fat fullShare U′.mir l₈ 0 w)) (ap only (EL.tells U.the-type U′.the-laws u (v₂ ∷ []) is-u)) refl $
         split ! $ lft-end ! tt $ move ! (0 ∷ 2 ∷ []) $ lent-back ! tt $ fsplit ! $ drop-item ! $

@@ -1,0 +1,61 @@
+/* The helpers of include/wattleslate.h, which take an answer apart, over answers written down here; for C and for C++. It needs no library. */
+#include "wattleslate.h"
+#include <stdio.h>
+
+static int wrong = 0;
+
+static void same(const char *what, uint64_t got, uint64_t wanted) {
+    if (got != wanted) {
+        wrong++;
+        printf("%s: %llu and not %llu\n", what, (unsigned long long)got, (unsigned long long)wanted);
+    }
+}
+
+/* a * 2^32 + b * 2^16 + c. */
+static uint64_t values(uint64_t a, uint64_t b, uint64_t c) {
+    return a * 4294967296u + b * 65536u + c;
+}
+
+/* A refusal's number stands above 48 bits of its place. */
+static uint64_t refused(uint64_t number, uint64_t place) {
+    return number * 281474976710656u + place;
+}
+
+static void drawn(uint64_t nothing_drawn, uint64_t stood_in, uint64_t width) {
+    uint64_t answer = values(nothing_drawn, stood_in, width);
+    same("number", wattleslate_number(answer), 0);
+    same("nothing drawn", wattleslate_nothing_drawn(answer), nothing_drawn);
+    same("stood in", wattleslate_stood_in(answer), stood_in);
+    same("width", wattleslate_width(answer), width);
+}
+
+/* "A refusal tells 0 and 0", at every place. */
+static void drawing_refused(uint64_t number, uint64_t place) {
+    uint64_t answer = refused(number, place);
+    same("number", wattleslate_number(answer), number);
+    same("place", wattleslate_place(answer), place);
+    same("nothing drawn of a refusal", wattleslate_nothing_drawn(answer), 0);
+    same("stood in of a refusal", wattleslate_stood_in(answer), 0);
+}
+
+int main(void) {
+    drawn(0, 0, 0);
+    drawn(0, 0, 1000);
+    drawn(0, 3, 33);
+    drawn(3, 0, 18);
+    drawn(1024, 0, 0);
+    drawn(0, 1024, 1000);
+    drawn(65535, 65534, 65533);
+    drawing_refused(16, 0);
+    drawing_refused(6, 28);
+    drawing_refused(5, 65536);
+    drawing_refused(5, 281474976710655u);
+    same("overlap of a join", wattleslate_overlap(values(0, 2, 3)), 2);
+    same("overlap of a stack", wattleslate_stack_overlap(values(2, 10, 18)), 2);
+    same("height", wattleslate_height(values(2, 10, 18)), 10);
+    same("width", wattleslate_width(values(2, 10, 18)), 18);
+    same("characters", wattleslate_characters(values(0, 6, 103)), 103);
+    same("stages", wattleslate_stages(values(0, 2, 256)), 2);
+    same("commands", wattleslate_commands(values(0, 2, 256)), 256);
+    return wrong > 0;
+}
