@@ -73,6 +73,9 @@ enum status put_stack(void);
 /* The numbers behind the hardblank of a header, in their order. */
 enum parameter { HEIGHT, BASELINE, MAX_LENGTH, OLD_LAYOUT, COMMENT_LINES, PRINT_DIRECTION, FULL_LAYOUT, CODETAG_COUNT };
 
+/* Whether a byte is a blank or a tab. */
+bool is_gap(uint8_t byte);
+
 /* A number of the header of a font that was accepted, or false where it is absent. */
 bool header_number(const struct file *font, enum parameter parameter, int64_t *value);
 

@@ -1,7 +1,7 @@
 /* The numbers in the header of a font, as 01 reads them: the library tells Height alone. */
 #include "cli.h"
 
-static bool is_gap(uint8_t byte) {
+bool is_gap(uint8_t byte) {
     return byte == ' ' || byte == '\t';
 }
 

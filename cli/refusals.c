@@ -61,16 +61,28 @@ static size_t line_of(const struct file *file, size_t place) {
     return line;
 }
 
-/* Which of the four reasons of refusal 6 the line at a place gives, with the column of the first byte at fault where there is one. The last reason
+/* The end of a row line without the blanks and tabs at its end, which are dropped first. */
+static size_t row_line_end(const struct file *font, size_t start) {
+    size_t end = line_end(font, start);
+    while (end > start && is_gap(font->bytes[end - 1])) {
+        end--;
+    }
+    return end;
+}
+
+/* Which of the five reasons of refusal 6 the line at a place gives, with the column of the first byte at fault where there is one. The last reason
  * is the one that is left when none of the others is there. The header of the font was accepted. */
 static const char *row_fault(const struct file *font, size_t start, size_t *column) {
-    size_t end = line_end(font, start), behind = end, most;
+    size_t end = row_line_end(font, start), behind = end, most;
     int64_t max_length = 0;
     /* A header that was accepted has it. */
     (void)header_number(font, MAX_LENGTH, &max_length);
     most = (size_t)max_length;
-    if (end == start) {
+    if (line_end(font, start) == start) {
         return "an empty line where a row is due";
+    }
+    if (end == start) {
+        return "a line of only blanks and tabs where a row is due";
     }
     if (end - start > most) {
         *column = most + 1;

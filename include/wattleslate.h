@@ -58,7 +58,7 @@ enum wattleslate_refusal {
     WATTLESLATE_BAD_HARDBLANK = 3,       /* absent, or blank, CR, LF, NUL */
     WATTLESLATE_BAD_PARAMETERS = 4,      /* no blank or tab after the hardblank, under five numbers, or a value out of range */
     WATTLESLATE_MISSING_LINE = 5,        /* the font ends before a needed line; place: its length */
-    WATTLESLATE_BAD_ROW = 6,             /* place: the start of that line */
+    WATTLESLATE_BAD_ROW = 6,             /* a line of only blanks and tabs is one too; place: the start of that line */
     WATTLESLATE_BAD_CODE_TAG = 7,        /* place: the start of that line */
     WATTLESLATE_TOO_MANY_CHARACTERS = 8, /* a 513th; place: the start of its tag line */
     WATTLESLATE_AREA_TOO_SMALL = 9,

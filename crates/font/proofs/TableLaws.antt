@@ -29,7 +29,7 @@ use Rattle.header.specs.Header.{parameterNumbers, parameters, legalParameters, 
 use Rattle.header.proofs.RefusalLaws.{hardblank-exactly, parameters-exactly, HeaderStops, signature, hardblank, numbers, header-exactly}
 use Rattle.rows.specs.declared.RowStep.{RowStep}
 use Rattle.rows.specs.declared.RowStep.the-variants.{Width, BadRow}
-use Rattle.rows.specs.Rows.{row, legalByte, rowOf, read, refused, hasWidth, rowsOn, otherRows, characterRows, lineCount}
+use Rattle.rows.specs.Rows.{trimmed, row, legalByte, rowOf, read, refused, hasWidth, rowsOn, otherRows, characterRows, lineCount}
 use Rattle.rows.proofs.LineLaws.{bad-exactly, has-width, width-exactly, line-exactly, row-exactly}
 use Rattle.rows.proofs.RefusalLaws.{RowsStop, other-missing, other-bad, past-other, CharacterStops, first-missing, first-bad, past-first}
 use Rattle.chars.specs.declared.TagStep.{TagStep}
@@ -85,9 +85,9 @@ module _ (s : List ℕ) where
   abbrev BadRowAt : ℕ → Type 0
   BadRowAt p =
       (h : Header) × (l : TextLine) × (ls : List TextLine) × (p ≡ l .start) ×
-      (((n : ℕ) × Comes s h (first-row n) (l ∷ ls) × ((length (l .text) ≡ 0) ⊎ (h .«max_length» < length (l .text)) ⊎ (all (legalByte (h .hardblank .0)) (row (l .text)) ≡ false))) ⊎
+      (((n : ℕ) × Comes s h (first-row n) (l ∷ ls) × ((length (trimmed (l .text)) ≡ 0) ⊎ (h .«max_length» < length (trimmed (l .text))) ⊎ (all (legalByte (h .hardblank .0)) (row (l .text)) ≡ false))) ⊎
       ((n k w : ℕ) × Comes s h (more-rows n (suc k) w) (l ∷ ls) ×
-      ((length (l .text) ≡ 0) ⊎ (h .«max_length» < length (l .text)) ⊎ (length (row (l .text)) ≡ w → ⊥) ⊎ (all (legalByte (h .hardblank .0)) (row (l .text)) ≡ false))))
+      ((length (trimmed (l .text)) ≡ 0) ⊎ (h .«max_length» < length (trimmed (l .text))) ⊎ (length (row (l .text)) ≡ w → ⊥) ⊎ (all (legalByte (h .hardblank .0)) (row (l .text)) ≡ false))))
 
   abbrev BadTagAt : ℕ → Type 0
   BadTagAt p =

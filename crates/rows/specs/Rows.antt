@@ -1,7 +1,7 @@
--- The row lines of a FIGcharacter: document 01, "The font, line by line".
+-- The row lines of a FIGcharacter: document 01, "The font, line by line", with the rule of document 02, Q-3.
 -- Assumes nothing.
 use Prim.Native.Nat.{ℕ, zero, suc, _-_}
-use mathlib.Core.Bool.{Bool, false, cond, _&&_, _||_}
+use mathlib.Core.Bool.{Bool, true, false, cond, _&&_, _||_}
 use mathlib.Core.List.{List, [], _∷_}
 use lib.Dec.{eqb, ltb, leb}
 use lib.ListN.{length}
@@ -9,23 +9,40 @@ use Rattle.ground.specs.Runs.{all}
 use Rattle.ground.specs.Refusals.{refusal, missingLine, badRow}
 use Rattle.ground.specs.declared.refusals.Refusal.{Refusal}
 use Rattle.lines.specs.Lines.{TextLine}
+use Rattle.lines.specs.Words.{isBlank}
 use Rattle.rows.specs.declared.Format.{Format}
 use Rattle.rows.specs.declared.RowStep.{RowStep}
 use Rattle.rows.specs.declared.RowStep.the-variants.{Width, BadRow}
 
--- "A row line loses its last block of equal bytes, of any length. What is left is the row."
+-- The shortest beginning of a list behind which a test holds of all that remains.
+unfoldable pub upTo : (List ℕ → Bool) → List ℕ → List ℕ
+upTo p [] = []
+upTo p (x ∷ xs) = cond (p (x ∷ xs)) [] (x ∷ upTo p xs)
+
+-- "Blanks and tabs at a row line's end are dropped first" (document 02, Q-3),
+unfoldable pub trimmed : List ℕ → List ℕ
+trimmed = upTo (all isBlank)
+
+-- "then the last block of equal bytes", "of any length": the endmarks.
+unfoldable pub oneBlock : List ℕ → Bool
+oneBlock [] = true
+oneBlock (x ∷ xs) = all (eqb x) xs
+
+unfoldable pub unmarked : List ℕ → List ℕ
+unmarked = upTo oneBlock
+
+-- "What is left is the row."
 unfoldable pub row : List ℕ → List ℕ
-row [] = []
-row (x ∷ xs) = cond (all (eqb x) xs) [] (x ∷ row xs)
+row t = unmarked (trimmed t)
 
 -- "A byte under 32 that is not the hardblank" is not legal in a row.
 unfoldable pub legalByte : ℕ → ℕ → Bool
 legalByte hardblank x = leb 32 x || eqb x hardblank
 
 -- A good row line is none of what refusal 6 names: "the line is empty, is longer than Max_Length with its marks, .. or its row holds a byte
--- under 32 that is not the hardblank".
+-- under 32 that is not the hardblank". "A line of only blanks and tabs is now refused"; "Max_Length is tested after dropping".
 unfoldable pub goodLine : Format → List ℕ → Bool
-goodLine f t = ltb 0 (length t) && leb (length t) (f .«max_length») && all (legalByte (f .hardblank .0)) (row t)
+goodLine f t = ltb 0 (length (trimmed t)) && leb (length (trimmed t)) (f .«max_length») && all (legalByte (f .hardblank .0)) (row t)
 
 -- What a row line holds. "Width 0 is legal."
 unfoldable pub rowOf : Format → List ℕ → RowStep

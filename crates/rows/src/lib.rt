@@ -4,13 +4,14 @@ use ground::refusals::Refusal;
 use lines::Cursor;
 use lines::LineStep;
 use lines::PlainStep;
+use lines::words;
 use subchars::SubCharacter;
 ghost use mathlib.Core.Path.{_≡_};
 ghost use mathlib.Core.Bool.{true};
 ghost use lib.ListN.{length};
 ghost use Rattle.ground.specs.Runs.{all};
 ghost use Rattle.lines.specs.Plain.{isPlain};
-ghost use Rattle.rows.specs.Rows.{row, legalByte, rowOf};
+ghost use Rattle.rows.specs.Rows.{trimmed, unmarked, legalByte, rowOf};
 ghost use Rattle.rows.specs.Steps.{badRowAt, rowThere, rowAt, sameAt, rowsAt, charAt};
 
 // What a font's header says of its row lines.
@@ -38,9 +39,30 @@ pub enum CharStep {
     NoChar(Refusal),
 }
 
-// How many bytes of a line stand before its endmarks, its last block of equal bytes.
+// How many bytes of a line stand before the blanks and tabs at its end. Most lines end in neither, and one look at the last byte tells it.
+fn trimmed_length(t: &[u8]) -> usize
+    ensures { λ n. ⌜ n ≡ length (trimmed (now (t .entry))) ⌝ }
+{
+    let mut n = t.len();
+    if n == 0 {
+        return 0;
+    }
+    if 32 < t[n - 1] {
+        return n;
+    }
+    while 0 < n {
+        if words::is_blank(t[n - 1]) {
+            n -= 1;
+        } else {
+            return n;
+        }
+    }
+    n
+}
+
+// How many bytes of a line, whose blanks and tabs at the end are dropped, stand before its endmarks, its last block of equal bytes.
 fn row_width(t: &[u8]) -> usize
-    ensures { λ n. ⌜ n ≡ length (row (now (t .entry))) ⌝ }
+    ensures { λ n. ⌜ n ≡ length (unmarked (now (t .entry))) ⌝ }
 {
     let size = t.len();
     if size == 0 {
@@ -85,13 +107,14 @@ fn row_where(f: Format, t: &[u8], plain: bool) -> RowStep
     requires { ⌜ (plain ≡ true → all isPlain (now t) ≡ true) ⌝ }
     ensures { λ r. ⌜ r ≡ rowOf f (now (t .entry)) ⌝ }
 {
-    if t.len() == 0 {
+    let size = trimmed_length(t);
+    if size == 0 {
         return RowStep::BadRow;
     }
-    if f.max_length < t.len() {
+    if f.max_length < size {
         return RowStep::BadRow;
     }
-    let width = row_width(t);
+    let width = row_width(&t[..size]);
     if plain {
         return RowStep::Width(width);
     }

@@ -4,13 +4,14 @@
 -- line that cites the law, so that what lies behind need not be opened.
 -- Assumes nothing.
 use mathlib.Core.Path.{_≡_, refl, ap}
-use mathlib.Core.Bool.{Bool, true, false}
+use mathlib.Core.Bool.{Bool, true, false, cond, _&&_}
 use mathlib.Core.List.{List, [], _∷_, _++_, map}
 use mathlib.Core.Logic.{_⊎_, inl, inr, _↔_, Iff·trans}
 use mathlib.Core.Option.{some}
 use Prim.Native.Nat.{ℕ, suc, _+_, _-_, _*_, _≤_, _<_, min, max}
 use lib.IntN.{ℤ, pos, natAbs, _-ℤ_}
 use lib.Signed.{leZ}
+use lib.Dec.{eqb, ltb, leb}
 use lib.ListN.{length, getD, take, drop, replicate}
 use borrow.Author.Tests.{eq-eqb, ne-eqb}
 use Rattle.ground.specs.Area.{zeros}
@@ -80,7 +81,11 @@ use Rattle.chars.specs.declared.Entry.{Entry}
 use Rattle.chars.specs.declared.TagStep.the-variants.{Tag}
 use Rattle.chars.specs.Codes.{code, requiredCodes, requiredCount, noCode, tagOf}
 use Rattle.chars.specs.Chars.{blankLines}
-use Rattle.rows.specs.Rows.{row, legalByte}
+use Rattle.rows.specs.declared.Format.{Format}
+use Rattle.rows.specs.declared.RowStep.{RowStep}
+use Rattle.rows.specs.declared.RowStep.the-variants as row-is
+use Rattle.rows.specs.Rows.{trimmed, unmarked, row, legalByte, rowOf, read, characterRows}
+use Rattle.rows.proofs.TrailingBlanks as row-lines
 use Rattle.chars.proofs.OrderLaws.{InOrder, EachTagged}
 use Rattle.index.specs.declared.Found.{Found}
 use Rattle.index.specs.declared.Found.the-variants.{At, Nowhere}
@@ -214,17 +219,18 @@ module _ (s : List ℕ) where
   refusal-5 = font-rows.row-5 s
 
   -- 6, "bad row", at the "start of that line": "the line is empty, is longer than Max_Length with its marks, its row differs in width from the character's first row, or
-  -- its row holds a byte under 32 that is not the hardblank". A first row has no other to differ from.
+  -- its row holds a byte under 32 that is not the hardblank". A first row has no other to differ from. By document 02, Q-3, "blanks and tabs at a row line's end are dropped
+  -- first", so empty and too long are said of what is left of the line (`trimmed`).
   refusal-6 : (p : ℕ) →
       reading s ≡ refuses (refusal badRow p) ↔
       ((h : Header) × (l : TextLine) × (ls : List TextLine) × (p ≡ l .start) ×
       (((n : ℕ) × Comes s h (first-row n) (l ∷ ls) ×
-      ((length (l .text) ≡ 0) ⊎
-      (h .«max_length» < length (l .text)) ⊎
+      ((length (trimmed (l .text)) ≡ 0) ⊎
+      (h .«max_length» < length (trimmed (l .text))) ⊎
       (all (legalByte (h .hardblank .0)) (row (l .text)) ≡ false))) ⊎
       ((n k w : ℕ) × Comes s h (more-rows n (suc k) w) (l ∷ ls) ×
-      ((length (l .text) ≡ 0) ⊎
-      (h .«max_length» < length (l .text)) ⊎
+      ((length (trimmed (l .text)) ≡ 0) ⊎
+      (h .«max_length» < length (trimmed (l .text))) ⊎
       (length (row (l .text)) ≡ w → ⊥) ⊎
       (all (legalByte (h .hardblank .0)) (row (l .text)) ≡ false)))))
   refusal-6 = font-rows.row-6 s
@@ -985,7 +991,7 @@ module _ (size : ℕ) (s control upper lower : List ℕ) (room : ℕ) where
       draw-stacked-lf : (r : ℕ) → r < drawnStack .height → getD (linesOutput linesDrawn room) (r * (drawnStack .block .width + 1) + drawnStack .block .width) 0 ≡ byte "\n"
       draw-stacked-lf = line-bytes.output-lf size s control upper lower room (line-rows.files size s control upper lower room h es cs k say) (line-rows.fits size s control upper lower room h es cs k say fit) m
 
--- ================================================================ 02, Q-2: tell me when a letter was replaced
+-- ================================================================ document 02, Q-2
 
 -- "The look-up must say which of three it was:
 module _ (c : Code) (es : List Entry) where
@@ -1066,3 +1072,68 @@ module _ (size : ℕ) (s control : List ℕ) (room : ℕ) where
         linesStacked size s control upper lower room h es cs k .height * (linesStacked size s control upper lower room h es cs k .block .width + 1) ≤ room →
         linesCounts (drawLines size s control upper lower) room ≡ bothCounts (fontCounts s es cs k upper) (fontCounts s es cs k lower)
     counts-over-both-texts h es cs k say fit = line-answers.counts-told size s control upper lower room (line-rows.files size s control upper lower room h es cs k say) (line-rows.fits size s control upper lower room h es cs k say fit)
+
+-- ================================================================ document 02, Q-3
+
+-- A line whose last byte is neither a blank nor a tab, or that has none.
+abbrev EndsOtherwise : List ℕ → Type 0
+EndsOtherwise t = (q : List ℕ) (x : ℕ) → t ≡ q ++ (x ∷ []) → isBlank x ≡ false
+
+-- What is left ends so, and what was dropped is blanks and tabs.
+dropped-blanks : (t : List ℕ) → EndsOtherwise (trimmed t) × ((b : List ℕ) × (t ≡ trimmed t ++ b) × (all isBlank b ≡ true))
+dropped-blanks = row-lines.trimmed-is
+
+-- A row line t, without its line end, in a font whose header says f.
+module _ (f : Format) where
+  -- Document 01's rule: "A row line loses its last block of equal bytes. .. Refusal 6: the line is empty, is longer than Max_Length with its marks, .. or its row holds a byte
+  -- under 32 that is not the hardblank."
+  abbrev firstRule : List ℕ → RowStep
+  firstRule t = cond (ltb 0 (length t) && leb (length t) (f .«max_length») && all (legalByte (f .hardblank .0)) (unmarked t)) (row-is.Width (length (unmarked t))) row-is.BadRow
+
+  -- "Blanks and tabs at a row line's end are dropped first, then the last block of equal bytes. Max_Length is tested after dropping": that rule, on what is left.
+  dropped-first : (t : List ℕ) → (rowOf f t ≡ firstRule (trimmed t)) × (row t ≡ unmarked (trimmed t))
+  unfolding row
+  dropped-first t = (row-lines.dropped-first f t, refl)
+
+  -- A line that ends in neither means what it meant,
+  same-without-blanks : (t : List ℕ) → EndsOtherwise t → (rowOf f t ≡ firstRule t) × (row t ≡ unmarked t)
+  same-without-blanks = row-lines.means-the-same f
+
+  -- and one of these that was legal is legal, with the same row.
+  still-legal : (t : List ℕ) (w : ℕ) → EndsOtherwise t → firstRule t ≡ row-is.Width w → (rowOf f t ≡ row-is.Width w) × (row t ≡ unmarked t)
+  still-legal = row-lines.still-legal f
+
+  -- With any number of blanks and tabs behind it, a line means the same as without them,
+  same-with-blanks : (t b : List ℕ) → all isBlank b ≡ true → (rowOf f (t ++ b) ≡ rowOf f t) × (row (t ++ b) ≡ row t)
+  same-with-blanks = row-lines.blanks-behind f
+
+  -- and so do the lines of a character, in two fonts of any size: where the one is read with a width, the other is.
+  same-characters : (size other w : ℕ) (ls ms : List TextLine) → map (λ (l : TextLine). trimmed (l .text)) ls ≡ map (λ (l : TextLine). trimmed (l .text)) ms →
+      characterRows f size ls ≡ read w → characterRows f other ms ≡ read w
+  same-characters = row-lines.characters-alike f
+
+  -- "A line of only blanks and tabs is now refused":
+  only-blanks-refused : (t : List ℕ) → all isBlank t ≡ true → rowOf f t ≡ row-is.BadRow
+  only-blanks-refused = row-lines.only-blanks f
+
+-- it, and the empty line, are those of which nothing is left.
+nothing-left : (t : List ℕ) → length (trimmed t) ≡ 0 ↔ all isBlank t ≡ true
+nothing-left = row-lines.nothing-left
+
+-- "So neither is ever an endmark": a line that holds a row is the row, a block of endmarks m that are neither blank nor tab, the whole of it, and blanks and tabs.
+abbrev Marked : List ℕ → Type 0
+Marked t =
+    (m : ℕ) × (marks : List ℕ) × (behind : List ℕ) × (t ≡ row t ++ (marks ++ behind)) ×
+    (0 < length marks) × (all (eqb m) marks ≡ true) × ((q : List ℕ) → row t ≡ q ++ (m ∷ []) → ⊥) × (isBlank m ≡ false) × (all isBlank behind ≡ true)
+
+never-an-endmark : (f : Format) (t : List ℕ) (w : ℕ) → rowOf f t ≡ row-is.Width w → Marked t
+never-an-endmark = row-lines.row-marked
+
+-- And bytes q that stand so on a line, before such a block with blanks and tabs behind it, are its row.
+row-so-marked : (q marks behind : List ℕ) (m : ℕ) →
+    0 < length marks → all (eqb m) marks ≡ true → ((p : List ℕ) → q ≡ p ++ (m ∷ []) → ⊥) → isBlank m ≡ false → all isBlank behind ≡ true → row (q ++ (marks ++ behind)) ≡ q
+row-so-marked = row-lines.row-so-marked
+
+-- "Demand 2 reads the mended rule": so is the line of every row that a row request gives.
+row-given-by-the-rule : (s : List ℕ) (c : Code) (r p w : ℕ) → rowTold s c r ≡ rowTells (NotRefused p w) → Marked (textAt s p) × (rowBytes s c r ≡ row (textAt s p))
+row-given-by-the-rule = row-calls.line-told

@@ -1,6 +1,6 @@
 -- The calls `row` and `row_refusal` agree for every input: the number is 0 exactly where the row is a row of the character that is used.
 -- Assumes nothing.
-use mathlib.Core.Path.{_≡_, refl, sym, ap, ap₂, _∙_}
+use mathlib.Core.Path.{_≡_, refl, sym, ap, ap₂, _∙_, subst}
 use mathlib.Core.Bool.{true, false≢true, true≢false}
 use mathlib.Core.List.{List, []}
 use mathlib.Core.Logic.{_↔_}
@@ -14,7 +14,8 @@ use Rattle.ground.proofs.Tests.{clash}
 use Rattle.subchars.specs.declared.Code.{Code}
 use Rattle.lines.specs.Lines.{textAt}
 use Rattle.rows.specs.Rows.{row}
-use Rattle.font.specs.Font.{refuses, reading}
+use Rattle.rows.proofs.TrailingBlanks.{Marked, row-marked}
+use Rattle.font.specs.Font.{refuses, format, reading}
 use Rattle.request.specs.declared.Requested.{Requested}
 use Rattle.request.specs.declared.Requested.the-variants as requested-is
 use Rattle.request.specs.Request.{rowRequest}
@@ -118,4 +119,19 @@ module _ (s : List ℕ) (c : Code) (r : ℕ) where
           let start : q ≡ p = ap (λ (t : RowTold). t .start) k in
           let width : v ≡ w = ap (λ (t : RowTold). t .width) k in
           (ap (partOf s) m ∙ ap₂ (λ (j n : ℕ). take n (drop j s)) start width, omega (arith, start, width, row-fits s c r q v m))
+      go (requested-is.Refused z) m k = absurd (true≢false (ap (λ (t : RowTold). t .refused) k))
+
+  -- "Blanks and tabs at a row line's end are dropped first, then the last block of equal bytes": so the line of a row that is given is the row, a block of endmarks
+  -- that are neither blank nor tab, and blanks and tabs.
+  pub line-told : (p w : ℕ) → rowTold s c r ≡ rowTells (NotRefused p w) → Marked (textAt s p) × (rowBytes s c r ≡ row (textAt s p))
+  unfolding rowTold is-row
+  line-told p w e = go (rowRequest s c r) refl e
+    where
+      go : (x : Requested) → rowRequest s c r ≡ x → requestTold x ≡ rowTells (NotRefused p w) → Marked (textAt s p) × (rowBytes s c r ≡ row (textAt s p))
+      go (requested-is.Row q v) m k =
+          let start : q ≡ p = ap (λ (t : RowTold). t .start) k in
+          let g = row-only s c r q v m in
+          let t = used-stands s (g .header) (g .entries) (g .said) (g .entry) c (g .is-used) r (g .below) in
+          let there : Marked (textAt s q) = subst (λ (j : ℕ). Marked (textAt s j)) (sym (g .place)) (row-marked (format (g .header)) (textAt s _) _ (t .width)) in
+          (subst (λ (j : ℕ). Marked (textAt s j)) start there, is-row q v m .whole ∙ ap (λ (j : ℕ). row (textAt s j)) start)
       go (requested-is.Refused z) m k = absurd (true≢false (ap (λ (t : RowTold). t .refused) k))

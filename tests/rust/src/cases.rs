@@ -21,7 +21,7 @@ pub fn banner_font(header: &str, end: &str) -> Vec<u8> {
 pub const HEADER: &str = "flf2a$ 1 1 4 -1 0";
 
 /// What the font reads as: one row, so many characters.
-fn reads(count: u16) -> Apart {
+pub fn reads(count: u16) -> Apart {
     Ok([0, 1, count])
 }
 
@@ -141,7 +141,7 @@ impl Check {
         }
     }
 
-    fn font(&mut self, font: &[u8], must: Apart) {
+    pub fn font(&mut self, font: &[u8], must: Apart) {
         let what = format!("font {:?}", String::from_utf8_lossy(font));
         self.same(&what, calls::check_font(font), plain::check_font(font), must);
     }
@@ -206,7 +206,6 @@ impl Check {
         self.font(&font[..418], reads(102));
         self.font(&font[..416], Err((5, 416)));
         self.font(&[&font[..416], b"\n"].concat(), Err((6, 416)));
-        self.font(&[&font[..416], b"  "].concat(), reads(102));
         self.font(&banner_font(HEADER, "\r"), reads(102));
         self.font(&banner_font(HEADER, "\r\n"), reads(102));
         self.font(&banner_font(HEADER, "\n\r"), Err((6, 18)));
@@ -253,5 +252,6 @@ pub fn run() -> (u64, u64) {
     }
     check.stacks();
     check.replaced();
+    check.rows();
     (check.made, check.wrong)
 }

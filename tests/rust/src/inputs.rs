@@ -183,6 +183,8 @@ struct Sizes {
     height: usize,
     max_length: usize,
     comments: usize,
+    /// Blanks and tabs behind the marks of some rows.
+    gaps: bool,
     wild: bool,
 }
 
@@ -210,6 +212,26 @@ fn header(r: &mut Random, s: &Sizes) -> Vec<u8> {
     line
 }
 
+/// Some blanks and tabs.
+fn gaps(r: &mut Random, most: usize) -> Vec<u8> {
+    let kinds = r.pick(&[&b" "[..], b" ", b"\t", b" \t"]);
+    let length = r.between(1, most);
+    (0..length).map(|_| r.pick(kinds)).collect()
+}
+
+/// A row line that is mostly bad: of blanks and tabs alone, longer than Max_Length by its marks, or with a byte that is put in.
+fn bad_row(r: &mut Random, s: &Sizes, line: &mut Vec<u8>) {
+    match r.below(4) {
+        0 => *line = gaps(r, 2 * s.max_length),
+        1 => line.resize(s.max_length + 1, b'@'),
+        2 => line.insert(0, r.pick(b"\t\t\x01")),
+        _ => line.insert(0, b'a'),
+    }
+    if r.one_in(2) {
+        line.extend(gaps(r, 3));
+    }
+}
+
 /// The rows of a character, each with one to three endmarks.
 fn character(r: &mut Random, s: &Sizes, end: &[u8], out: &mut Vec<u8>) {
     let width = if s.max_length > 100 && r.one_in(3) { s.max_length - 1 } else { r.below(s.max_length.min(7)) };
@@ -219,6 +241,12 @@ fn character(r: &mut Random, s: &Sizes, end: &[u8], out: &mut Vec<u8>) {
         let mark = if last == Some(b'@') { b'!' } else { b'@' };
         let most = s.max_length - width;
         bytes.extend(std::iter::repeat(mark).take(r.between(1, most.min(3))));
+        if s.gaps && r.one_in(3) {
+            bytes.extend(gaps(r, 3));
+        }
+        if s.wild && r.one_in(2000) {
+            bad_row(r, s, &mut bytes);
+        }
         out.extend(bytes);
         out.extend(end);
     }
@@ -233,11 +261,12 @@ fn tag(r: &mut Random, wild: bool) -> Vec<u8> {
     };
     let n = if n == -1 { 0 } else { n };
     let (minus, size) = if n < 0 { ("-", -n) } else { ("", n) };
-    let mut text = match r.below(5) {
+    let mut text = match r.below(6) {
         0 => format!("{minus}0x{size:x}"),
         1 => format!("{minus}0X{size:05X}"),
         2 => format!("{minus}0{size:o}"),
         3 => format!("  {n} a comment"),
+        4 => format!("{n}\t "),
         _ => format!("{n}"),
     };
     if wild && r.one_in(10) {
@@ -262,6 +291,7 @@ fn sizes(r: &mut Random, wild: bool) -> Sizes {
         height: if r.one_in(30) { r.between(1, 32) } else { r.between(1, 4) },
         max_length: if r.one_in(30) { r.between(180, 200) } else { r.between(1, 9) },
         comments: r.below(4) * r.below(2),
+        gaps: r.one_in(3),
         wild,
     }
 }

@@ -7,5 +7,7 @@ pub mod plain;
 pub mod random;
 pub mod replaced;
 pub mod replaced_cases;
+pub mod row_cases;
+pub mod rows;
 pub mod stack_cases;
 pub mod stacks;

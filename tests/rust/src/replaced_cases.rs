@@ -65,7 +65,7 @@ const LAYOUTS: &[(&str, &[u8], &str)] = &[
 ];
 
 impl Check {
-    fn replacing(&mut self, font: &[u8], control: &str, text: &[u8], rooms: [usize; 2], must: Apart, result: &str) {
+    pub fn replacing(&mut self, font: &[u8], control: &str, text: &[u8], rooms: [usize; 2], must: Apart, result: &str) {
         let [scratch, room] = rooms;
         let (mut s, mut a) = (vec![1; scratch], vec![1; room]);
         let x = calls::draw(font, control.as_bytes(), text, &mut s, &mut a);

@@ -4,7 +4,7 @@ use std::process::exit;
 use std::time::Instant;
 use wattleslate_tests::met::{self, Drawing, Met};
 use wattleslate_tests::random::Random;
-use wattleslate_tests::{calls, cases, inputs, plain, replaced, stacks};
+use wattleslate_tests::{calls, cases, inputs, plain, replaced, rows, stacks};
 
 /// How often a call was made and how often each refusal came; 0 is success.
 struct Count {
@@ -90,12 +90,13 @@ fn compare_stack(r: &mut Random, count: &mut Count, met: &mut Met) {
     met::stack(&s.request(), x, s.out.len(), met);
 }
 
-fn compare_font(font: &[u8], count: &mut Count) {
+fn compare_font(font: &[u8], count: &mut Count, met: &mut Met) {
     let (x, y) = (calls::check_font(font), plain::check_font(font));
     if x != y {
         differ("check_font", &[("font", shown(font))], (x, &[]), (y, &[]));
     }
     count.add(x);
+    rows::font(font, x, met);
 }
 
 fn compare_control(file: &[u8], count: &mut Count) {
@@ -184,7 +185,7 @@ fn compare_draw_stacked(r: &mut Random, font: &[u8], control: &[u8], [upper, low
 }
 
 /// What one round compares: ten joins and stacks, a font, three control files, a line and two lines drawn with the font.
-fn round(r: &mut Random, mut font: Vec<u8>, damaged: bool, counts: &mut [Count; 6], cases: &mut [Met; 3]) {
+fn round(r: &mut Random, mut font: Vec<u8>, damaged: bool, counts: &mut [Count; 6], cases: &mut [Met; 4]) {
     for _ in 0..10 {
         compare_join(r, &mut counts[0]);
         compare_stack(r, &mut counts[4], &mut cases[0]);
@@ -192,7 +193,7 @@ fn round(r: &mut Random, mut font: Vec<u8>, damaged: bool, counts: &mut [Count; 
     if damaged {
         inputs::damage(r, &mut font);
     }
-    compare_font(&font, &mut counts[1]);
+    compare_font(&font, &mut counts[1], &mut cases[3]);
     for _ in 0..3 {
         compare_control(&inputs::control(r), &mut counts[2]);
     }
@@ -228,6 +229,7 @@ fn main() {
         Met::new("stacks met", met::STACKS),
         Met::new("drawings of two lines met", met::DRAWINGS),
         Met::new("bytes that are not in the font met", replaced::CASES),
+        Met::new("row lines met", rows::CASES),
     ];
     for k in 0..times {
         let font = if k % 8 == 0 { console.clone() } else { inputs::font(&mut r) };

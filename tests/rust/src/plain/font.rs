@@ -21,8 +21,16 @@ fn required_codes() -> impl Iterator<Item = i32> {
     (32..=126).chain([196, 214, 220, 228, 246, 252, 223])
 }
 
-/// The width of the row on a line, which "loses its last block of equal bytes, of any length"; none for a bad row.
+/// "Blanks and tabs at a row line's end are dropped first."
+pub fn dropped(line: &[u8]) -> &[u8] {
+    let end = line.iter().rposition(|b| !is_gap(*b)).map_or(0, |k| k + 1);
+    &line[..end]
+}
+
+/// The width of the row on a line: "then the last block of equal bytes" is dropped, of any length; none for a bad row. "Max_Length is tested after dropping. A
+/// line of only blanks and tabs is now refused."
 fn row_width(line: &[u8], header: &Header) -> Option<usize> {
+    let line = dropped(line);
     let mark = line.last()?;
     let width = line.iter().rposition(|b| b != mark).map_or(0, |k| k + 1);
     let legal = |b: &u8| *b >= 32 || *b == header.hardblank;
