@@ -1,5 +1,5 @@
-/* What the parts of the command share. main.c has its words and options, stack.c puts names below one another, io.c reads and writes, header.c reads
- * the numbers of a font, refusals.c says why something was refused. */
+/* What the parts of the command share. main.c has its words and options, stack.c puts names below one another, wrap.c draws a text in lines, io.c reads and
+ * writes, header.c reads the numbers of a font, refusals.c says why something was refused. */
 #ifndef CLI_H
 #define CLI_H
 
@@ -46,6 +46,9 @@ enum step next_line(struct text *text);
 enum status put(const uint8_t *bytes, size_t length);
 enum status put_string(const char *string);
 
+/* How many columns standard output has where it is a terminal that tells them, at most as many as a line may have; else 0. */
+size_t output_columns(void);
+
 /* Ends what was written to standard output: an error that only shows now is told. */
 enum status close_output(void);
 
@@ -57,12 +60,16 @@ void show_string(const char *string);
 /* Shows a text by its first 60 bytes, or by its line of standard input. */
 void show_text(const struct text *text);
 
-/* Draws a text. The answer is the library's; the rows, each with an LF, last until the next call. */
+/* Draws a text in one line. The answer is the library's; the rows, each with an LF, last until the next call. */
 struct drawing {
     uint64_t answer;
     const uint8_t *rows;
+    size_t length; /* of the rows, in bytes; of nothing that was refused */
 };
 struct drawing draw_line(const struct files *files, const struct text *text);
+
+/* Draws a text in lines of so many columns at most, 1 to 1,000, one below the other. */
+struct drawing draw_wrapped(const struct files *files, const struct text *text, size_t columns);
 
 /* Names below one another: the first two, then one more at a time, then the rows of all of them are written. A text that is refused is told, and the
  * status REFUSED given. */

@@ -4,6 +4,7 @@
 #include <fcntl.h>
 #include <stdio.h>
 #include <string.h>
+#include <sys/ioctl.h>
 #include <unistd.h>
 
 static enum status io_failed(const char *name, const char *what) {
@@ -123,6 +124,18 @@ enum status put(const uint8_t *bytes, size_t length) {
         }
     }
     return output == BROKEN ? BAD_FILE : GOOD;
+}
+
+size_t output_columns(void) {
+    struct winsize size;
+    int told;
+    do {
+        told = ioctl(STDOUT_FILENO, TIOCGWINSZ, &size);
+    } while (told < 0 && errno == EINTR);
+    if (told < 0) {
+        return 0;
+    }
+    return size.ws_col < WATTLESLATE_MAX_WIDTH ? size.ws_col : WATTLESLATE_MAX_WIDTH;
 }
 
 enum status put_string(const char *string) {

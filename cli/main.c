@@ -11,7 +11,7 @@
 enum { DRAW = 1, STACK = 2, CHECK = 4, EVERY_WORD = ~0 };
 
 /* The options. What was given for each stands in a call: the value, or the option itself where it takes none; NULL if it was not given. */
-enum { FONT, CONTROL, STRICT, HELP, SHOW_VERSION, OPTIONS_COUNT };
+enum { FONT, CONTROL, COLUMNS, STRICT, HELP, SHOW_VERSION, OPTIONS_COUNT };
 
 /* What the command line asks for. */
 struct call {
@@ -36,7 +36,7 @@ struct word {
 /* The first word is meant where none is given. */
 static const struct word WORDS[] = {
     {"draw", DRAW, 0, "nothing", draw,
-     "  wattleslate [draw] [-f FONT] [-c CONTROL] [--strict] [NAME...]\n"
+     "  wattleslate [draw] [-f FONT] [-c CONTROL] [-w COLUMNS] [--strict] [NAME...]\n"
      "      draws each NAME, or without a NAME each line of standard input, and tells of bytes that are not in the font\n"},
     {"stack", STACK, 0, "nothing", stack,
      "  wattleslate stack [-f FONT] [-c CONTROL] [NAME...]\n"
@@ -48,15 +48,20 @@ static const struct word WORDS[] = {
 
 struct option {
     const char *name;
-    const char *value; /* NULL: it takes none */
+    const char *wants; /* what its value is; NULL: it takes none */
     int words;
     size_t place; /* in a call's given */
     const char *help;
 };
 
+/* What -w wants: 1,000 is WATTLESLATE_MAX_WIDTH. */
+#define COLUMNS_WANTED "a number of columns from 0 to 1,000"
+
 static const struct option OPTIONS[] = {
-    {"-f", "FONT", DRAW | STACK, FONT, "  -f FONT     draw with this FIGfont, and not with the built-in one\n"},
-    {"-c", "CONTROL", DRAW | STACK, CONTROL, "  -c CONTROL  map the characters by this control file first\n"},
+    {"-f", "a FONT", DRAW | STACK, FONT, "  -f FONT     draw with this FIGfont, and not with the built-in one\n"},
+    {"-c", "a CONTROL", DRAW | STACK, CONTROL, "  -c CONTROL  map the characters by this control file first\n"},
+    {"-w", COLUMNS_WANTED, DRAW, COLUMNS,
+     "  -w COLUMNS  break a text at blanks into lines of at most COLUMNS; 0 breaks none. Without it a terminal's width is taken\n"},
     {"--strict", NULL, DRAW, STRICT, "  --strict    end with status 1 where a byte is not in the font\n"},
     {"-h", NULL, EVERY_WORD, HELP, ""},
     {"--help", NULL, EVERY_WORD, HELP, "  --help, -h  print this help\n"},
@@ -73,6 +78,16 @@ static const char MORE_HELP[] =
 
 static enum status worse(enum status one, enum status other) {
     return one > other ? one : other;
+}
+
+/* Says what is wrong with the command line, in three parts, each of which may be a word of it. */
+static enum status bad_use(const char *first, const char *second, const char *third) {
+    fputs("wattleslate: ", stderr);
+    show_string(first);
+    show_string(second);
+    show_string(third);
+    fputs("; wattleslate --help says how it is called\n", stderr);
+    return BAD_USE;
 }
 
 /* Loads the font and the control file that were asked for and has the library read them. What is wrong with either is said once, not for each
@@ -107,15 +122,16 @@ struct drawing draw_line(const struct files *files, const struct text *text) {
     static uint8_t scratch[WATTLESLATE_SCRATCH], out[WATTLESLATE_MAX_DRAWN];
     uint64_t answer = wattleslate_draw(files->font.bytes, files->font.length, files->control.bytes, files->control.length, text->bytes,
                                        text->length, scratch, sizeof scratch, out, sizeof out);
-    return (struct drawing){answer, out};
+    bool refused = wattleslate_number(answer) != WATTLESLATE_NOT_REFUSED;
+    return (struct drawing){answer, out, refused ? 0 : WATTLESLATE_DRAWN(files->height, wattleslate_width(answer))};
 }
 
 /* Writes the rows of a text that was drawn, or says why it was refused. */
-static enum status put_drawing(const struct files *files, const struct text *text, const struct drawing *drawing) {
+static enum status put_drawing(const struct text *text, const struct drawing *drawing) {
     if (wattleslate_number(drawing->answer) != WATTLESLATE_NOT_REFUSED) {
         return text_refused(text, drawing->answer);
     }
-    return put(drawing->rows, WATTLESLATE_DRAWN(files->height, wattleslate_width(drawing->answer)));
+    return put(drawing->rows, drawing->length);
 }
 
 /* Says how many bytes of a text are not in the font; whether there are any. */
@@ -129,10 +145,26 @@ static bool tell_missing(const struct text *text, uint64_t answer) {
     return true;
 }
 
+/* How many columns a line may have, 0 for any number, and whether -w says so. */
+struct limit {
+    size_t columns;
+    bool asked;
+};
+
+/* A character that is wider than the terminal does not keep a name from being drawn, in one line; one that is wider than -w says does. */
+static struct drawing draw_within(const struct files *files, const struct text *text, const struct limit *limit) {
+    if (limit->columns == 0) {
+        return draw_line(files, text);
+    }
+    struct drawing drawing = draw_wrapped(files, text, limit->columns);
+    bool too_wide = wattleslate_number(drawing.answer) == WATTLESLATE_CHARACTER_TOO_WIDE;
+    return too_wide && !limit->asked ? draw_line(files, text) : drawing;
+}
+
 /* The rows come first, then what is said of them: where they cannot be written, that alone is told. */
-static enum status draw_text(const struct files *files, const struct text *text, bool strict) {
-    struct drawing drawing = draw_line(files, text);
-    enum status status = put_drawing(files, text, &drawing);
+static enum status draw_text(const struct files *files, const struct text *text, const struct limit *limit, bool strict) {
+    struct drawing drawing = draw_within(files, text, limit);
+    enum status status = put_drawing(text, &drawing);
     return status == GOOD && tell_missing(text, drawing.answer) && strict ? REFUSED : status;
 }
 
@@ -148,16 +180,47 @@ static enum step next_text(const struct call *call, size_t number, struct text *
     return NEXT;
 }
 
+/* Reads a number of columns, which is decimal digits. */
+static bool columns_of(const char *digits, size_t *columns) {
+    *columns = 0;
+    for (const char *at = digits; *at != '\0'; at++) {
+        if (*at < '0' || *at > '9') {
+            return false;
+        }
+        *columns = *columns * 10 + (size_t)(*at - '0');
+        if (*columns > WATTLESLATE_MAX_WIDTH) {
+            return false;
+        }
+    }
+    return digits[0] != '\0';
+}
+
+/* The limit that -w gives, else that of the terminal. */
+static enum status take_limit(const struct call *call, struct limit *limit) {
+    const char *given = call->given[COLUMNS];
+    *limit = (struct limit){0, given != NULL};
+    if (given == NULL) {
+        limit->columns = output_columns();
+    } else if (!columns_of(given, &limit->columns)) {
+        return bad_use("-w wants " COLUMNS_WANTED ", not ", given, "");
+    }
+    return GOOD;
+}
+
 static enum status draw(const struct call *call) {
     struct files files;
     struct text text;
+    struct limit limit;
     enum step step = END;
-    enum status status = take_files(call, &files);
+    enum status status = take_limit(call, &limit);
+    if (status == GOOD) {
+        status = take_files(call, &files);
+    }
     if (status != GOOD) {
         return status;
     }
     for (size_t number = 0; status != BAD_FILE && (step = next_text(call, number, &text)) == NEXT; number++) {
-        status = worse(status, draw_text(&files, &text, call->given[STRICT] != NULL));
+        status = worse(status, draw_text(&files, &text, &limit, call->given[STRICT] != NULL));
     }
     return step == FAILED ? BAD_FILE : status;
 }
@@ -176,7 +239,7 @@ static enum status stack(const struct call *call) {
         step = next_text(call, 1, &lower);
         if (step == END) {
             struct drawing alone = draw_line(&files, &upper);
-            return put_drawing(&files, &upper, &alone);
+            return put_drawing(&upper, &alone);
         }
     }
     if (step != NEXT) {
@@ -245,16 +308,6 @@ static enum status help(void) {
     return worse(status, put_string(MORE_HELP));
 }
 
-/* Says what is wrong with the command line, in three parts, each of which may be a word of it. */
-static enum status bad_use(const char *first, const char *second, const char *third) {
-    fputs("wattleslate: ", stderr);
-    show_string(first);
-    show_string(second);
-    show_string(third);
-    fputs("; wattleslate --help says how it is called\n", stderr);
-    return BAD_USE;
-}
-
 /* The option that an argument begins with, or NULL; and its value where that is a part of the argument: -fFONT, --name=VALUE. */
 static const struct option *option_of(const char *argument, const char **value) {
     *value = NULL;
@@ -268,7 +321,7 @@ static const struct option *option_of(const char *argument, const char **value) 
         if (argument[length] == '\0') {
             return option;
         }
-        if (option->value != NULL && (!is_long || argument[length] == '=')) {
+        if (option->wants != NULL && (!is_long || argument[length] == '=')) {
             *value = argument + length + (is_long ? 1 : 0);
             return option;
         }
@@ -287,14 +340,14 @@ static enum status take_option(const struct word *word, char **arguments, struct
     if ((option->words & word->bit) == 0) {
         return bad_use(word->name, " takes no option ", option->name);
     }
-    if (option->value == NULL) {
+    if (option->wants == NULL) {
         value = option->name;
     } else if (value == NULL) {
         value = arguments[1];
         *used = 2;
     }
     if (value == NULL) {
-        return bad_use(option->name, " wants a ", option->value);
+        return bad_use(option->name, " wants ", option->wants);
     }
     call->given[option->place] = value;
     return GOOD;

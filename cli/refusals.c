@@ -2,7 +2,7 @@
 #include "cli.h"
 #include <stdio.h>
 
-/* What a refusal number says, and whether it has a place in a file. */
+/* What a refusal number says, and whether it has a place, in a file or in a text. */
 struct refusal {
     bool placed;
     const char *sentence;
@@ -28,6 +28,7 @@ static const struct refusal REFUSALS[] = {
     [WATTLESLATE_LINE_TOO_WIDE]       = {false, "the drawn line is wider than 1,000 columns"},
     [WATTLESLATE_BAD_SHAPE]           = {false, "a join or a stack of bad shape"},
     [WATTLESLATE_STACK_TOO_HIGH]      = {false, "the stack is higher than 64 rows"},
+    [WATTLESLATE_CHARACTER_TOO_WIDE]  = {true,  "a character is wider than the limit; a larger -w draws it, and -w 0 never wraps"},
 };
 /* clang-format on */
 
@@ -123,7 +124,15 @@ enum status file_refused(const struct file *file, uint64_t answer) {
 }
 
 enum status text_refused(const struct text *text, uint64_t answer) {
+    struct refusal refusal = refusal_of(answer);
+    size_t place = (size_t)wattleslate_place(answer);
     show_text(text);
-    fprintf(stderr, ": %s (refusal %d)\n", refusal_of(answer).sentence, (int)wattleslate_number(answer));
+    fprintf(stderr, ": %s (refusal %d", refusal.sentence, (int)wattleslate_number(answer));
+    if (refusal.placed && place < text->length) {
+        /* A byte over 127 alone is no character of UTF-8. */
+        uint8_t byte = text->bytes[place];
+        fprintf(stderr, byte < 32 || byte > 126 ? " at byte %zu: \\x%02x" : " at byte %zu: %c", place, byte);
+    }
+    fputs(")\n", stderr);
     return REFUSED;
 }

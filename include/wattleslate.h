@@ -1,8 +1,8 @@
 /* The calls of Wattleslate for programs in C: link target/staticlib/libcapi.a, which `rt staticlib capi` writes.
  *
- * Every call ends, tests its own input and answers one number. Nothing is asked of the input but what C itself asks: a pointer and the length
- * behind it are those of an area of that many bytes, a pointer is not NULL even where the length is 0, and an area that is lent for writing lies in no
- * other one that the same call is given. No call allocates, keeps a pointer, or uses anything outside of its arguments.
+ * Every call ends, tests its own input and answers one number. Nothing is asked of the input but what C itself asks: a pointer and the length behind it are
+ * those of an area of that many bytes, or of a list of that many entries where they are `size_t`; a pointer is not NULL even where the length is 0, and an area
+ * that is lent for writing lies in no other one that the same call is given. No call allocates, keeps a pointer, or uses anything outside of its arguments.
  *
  * The answer has the refusal's number in its upper 16 bits, 0 if it is not refused. Below it stands the refusal's place, 48 bits, or up to three values of 16 bits:
  * a * 2^32 + b * 2^16 + c. The functions at the end take an answer apart. After a refusal every area that was lent for writing is all zeros.
@@ -11,6 +11,7 @@
  *     wattleslate_check_font      0               height     characters
  *     wattleslate_check_control   0               stages     commands
  *     wattleslate_draw            nothing drawn   stood in   width
+ *     wattleslate_draw_wrapped    nothing drawn   stood in   lines
  *     wattleslate_join            0               overlap    width
  *     wattleslate_stack           overlap         height     width
  *     wattleslate_draw_stacked    overlap         height     width
@@ -37,8 +38,11 @@ extern "C" {
 #define WATTLESLATE_MAX_COMMANDS 256u
 #define WATTLESLATE_MAX_STAGES 64u
 
-/* The scratch that drawing is lent has this many bytes or more. */
+/* The scratch that drawing is lent has this many bytes or more, in one line or wrapped. */
 #define WATTLESLATE_SCRATCH 32000u
+
+/* Each list that wrapping is lent has this many entries or more: a text has no more lines than bytes. */
+#define WATTLESLATE_LINES 1024u
 
 /* The scratch that drawing two lines is lent has this many bytes or more: one line's room for each text. */
 #define WATTLESLATE_STACKED_SCRATCH 64000u
@@ -49,6 +53,11 @@ extern "C" {
 /* Room for every drawing of every font, and for every drawing of two lines. */
 #define WATTLESLATE_MAX_DRAWN WATTLESLATE_DRAWN(WATTLESLATE_MAX_HEIGHT, WATTLESLATE_MAX_WIDTH)
 #define WATTLESLATE_MAX_STACKED WATTLESLATE_DRAWN(WATTLESLATE_MAX_STACK_HEIGHT, WATTLESLATE_MAX_WIDTH)
+
+/* Room for every wrapped drawing of a text of so many bytes, by a font of that height: each byte is drawn at most once, a line has one byte or more, and none
+ * is wider than its characters side by side. Letters of 199 columns at a limit of 199 need all of it. */
+#define WATTLESLATE_WRAPPED(height, text_len) ((size_t)(text_len) * WATTLESLATE_DRAWN(height, WATTLESLATE_MAX_CHARACTER_WIDTH))
+#define WATTLESLATE_MAX_WRAPPED WATTLESLATE_WRAPPED(WATTLESLATE_MAX_HEIGHT, WATTLESLATE_MAX_TEXT)
 
 /* The refusal numbers, and what the place is: 0 where nothing is said. */
 enum wattleslate_refusal {
@@ -69,8 +78,9 @@ enum wattleslate_refusal {
     WATTLESLATE_TOO_MANY_COMMANDS = 14,  /* a 257th command or 65th stage; place: the start of that line */
     WATTLESLATE_TEXT_TOO_LONG = 15,
     WATTLESLATE_LINE_TOO_WIDE = 16,
-    WATTLESLATE_BAD_SHAPE = 17,          /* a join or a stack of bad shape */
-    WATTLESLATE_STACK_TOO_HIGH = 18      /* over 64 rows */
+    WATTLESLATE_BAD_SHAPE = 17,          /* a join or a stack of bad shape, or a limit outside 1 to 1,000 */
+    WATTLESLATE_STACK_TOO_HIGH = 18,     /* over 64 rows */
+    WATTLESLATE_CHARACTER_TOO_WIDE = 19  /* wider than the limit; place: that of its byte in the text */
 };
 
 /* Layouts of a join, as a font's Full_Layout: one of these, or SMUSHING plus rules 1 to 63. Any number up to 32,767 means what it means there. */
@@ -100,6 +110,19 @@ uint64_t wattleslate_check_control(const uint8_t *file, size_t file_len);
  * wattleslate_stood_in and wattleslate_width. */
 uint64_t wattleslate_draw(const uint8_t *font, size_t font_len, const uint8_t *control, size_t control_len, const uint8_t *text,
                           size_t text_len, uint8_t *scratch, size_t scratch_len, uint8_t *out, size_t out_len);
+
+/* Draws a text in lines of at most `limit` columns, 1 to 1,000, by a font and a control file, which may be empty. Words are the longest runs of text bytes
+ * other than 32, before mapping. A line takes the most words that fit, drawn with the blanks between them; blanks at a break and at either end of the text are
+ * not drawn, and a text without words has no lines. A first word that does not fit is broken after the most characters that fit, and its rest is the next
+ * line's first word. A line is drawn as a text of its own. `firsts` and `ends` then hold for each line the place of its first byte and the place behind its
+ * last one, and zeros behind them. `out` holds the drawings of the lines one after another, and zeros behind them; `scratch` is all zeros. A drawing is the
+ * font's height of rows, each with an LF, and no row holds another LF or a zero: the width of a line is that of its rows. The bytes that are not in the font
+ * are counted as in wattleslate_draw, over the whole text. Refusals: 9 for a list under WATTLESLATE_LINES entries or a scratch under WATTLESLATE_SCRATCH bytes,
+ * 1 to 8, 10 to 14, 15, 17 for the limit, 19 for the first byte other than 32 whose character, the code's own or the one that stands in, is wider than the
+ * limit, then 9 for `out`. 16 is never given. Values: wattleslate_nothing_drawn, wattleslate_stood_in and wattleslate_lines. */
+uint64_t wattleslate_draw_wrapped(const uint8_t *font, size_t font_len, const uint8_t *control, size_t control_len, const uint8_t *text,
+                                  size_t text_len, size_t limit, uint8_t *scratch, size_t scratch_len, size_t *firsts, size_t firsts_len,
+                                  size_t *ends, size_t ends_len, uint8_t *out, size_t out_len);
 
 /* Joins a FIGcharacter to a line of equal height, at its right when writing left to right, otherwise at its left. A block's rows lie one after another; `out` then holds
  * the result's, and zeros behind them. Refusals: 17 (height outside 1 to 32, line wider than 1,000, character wider than 199, a
@@ -139,17 +162,22 @@ static inline uint64_t wattleslate_place(uint64_t answer) {
     return answer & (((uint64_t)1 << WATTLESLATE_PLACE_BITS) - 1);
 }
 
-/* Of the calls that draw, join or stack, where not refused: the width of the drawing or of the result. */
+/* Of the calls that draw in one line, join or stack, where not refused: the width of the drawing or of the result. */
 static inline uint32_t wattleslate_width(uint64_t answer) {
     return (uint16_t)answer;
 }
 
-/* Of wattleslate_draw: for how many text bytes the character with code 0 stood in. A refusal tells 0. */
+/* Of wattleslate_draw_wrapped, where not refused: how many lines there are. */
+static inline uint32_t wattleslate_lines(uint64_t answer) {
+    return (uint16_t)answer;
+}
+
+/* Of wattleslate_draw and wattleslate_draw_wrapped: for how many text bytes the character with code 0 stood in. A refusal tells 0. */
 static inline uint32_t wattleslate_stood_in(uint64_t answer) {
     return wattleslate_number(answer) == WATTLESLATE_NOT_REFUSED ? (uint16_t)(answer >> WATTLESLATE_VALUE_BITS) : 0;
 }
 
-/* Of wattleslate_draw: for how many text bytes nothing was drawn. A refusal tells 0. */
+/* Of wattleslate_draw and wattleslate_draw_wrapped: for how many text bytes nothing was drawn. A refusal tells 0. */
 static inline uint32_t wattleslate_nothing_drawn(uint64_t answer) {
     return wattleslate_number(answer) == WATTLESLATE_NOT_REFUSED ? (uint16_t)(answer >> (2 * WATTLESLATE_VALUE_BITS)) : 0;
 }

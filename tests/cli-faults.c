@@ -1,6 +1,7 @@
-/* Faults of the system under the command, for tests/cli: linked with --wrap for open, read, write and close. Every second call is interrupted, and
+/* Faults of the system under the command, for tests/cli: linked with --wrap for open, read, write, close and ioctl. Every second call is interrupted, and
  * reads and writes move one to seven bytes. FAIL_READ=N lets the Nth read fail; FAIL_CLOSE=N lets the closing of standard output fail with error N. */
 #include <errno.h>
+#include <stdarg.h>
 #include <stdlib.h>
 #include <unistd.h>
 
@@ -8,11 +9,13 @@ int __real_open(const char *path, int flags);
 ssize_t __real_read(int fd, void *area, size_t room);
 ssize_t __real_write(int fd, const void *bytes, size_t length);
 int __real_close(int fd);
+int __real_ioctl(int fd, unsigned long request, ...);
 
 int __wrap_open(const char *path, int flags);
 ssize_t __wrap_read(int fd, void *area, size_t room);
 ssize_t __wrap_write(int fd, const void *bytes, size_t length);
 int __wrap_close(int fd);
+int __wrap_ioctl(int fd, unsigned long request, ...);
 
 static int setting(const char *name) {
     const char *value = getenv(name);
@@ -50,6 +53,15 @@ ssize_t __wrap_read(int fd, void *area, size_t room) {
 
 ssize_t __wrap_write(int fd, const void *bytes, size_t length) {
     return interrupted() ? -1 : __real_write(fd, bytes, some(length));
+}
+
+/* With the one argument that the command gives, a pointer. */
+int __wrap_ioctl(int fd, unsigned long request, ...) {
+    va_list more;
+    va_start(more, request);
+    void *area = va_arg(more, void *);
+    va_end(more);
+    return interrupted() ? -1 : __real_ioctl(fd, request, area);
 }
 
 int __wrap_close(int fd) {

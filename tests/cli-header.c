@@ -29,6 +29,22 @@ static void drawn(uint64_t nothing_drawn, uint64_t stood_in, uint64_t width) {
     same("width", wattleslate_width(answer), width);
 }
 
+static void wrapped(uint64_t nothing_drawn, uint64_t stood_in, uint64_t lines) {
+    uint64_t answer = values(nothing_drawn, stood_in, lines);
+    same("number", wattleslate_number(answer), 0);
+    same("nothing drawn", wattleslate_nothing_drawn(answer), nothing_drawn);
+    same("stood in", wattleslate_stood_in(answer), stood_in);
+    same("lines", wattleslate_lines(answer), lines);
+}
+
+/* The sizes that wrapping speaks of, by hand: 1,024 lines of 32 rows of 199 columns and an LF. */
+static void wrapped_sizes(void) {
+    same("the lists", WATTLESLATE_LINES, 1024);
+    same("every wrapped drawing", WATTLESLATE_MAX_WRAPPED, 6553600);
+    same("one byte, one row", WATTLESLATE_WRAPPED(1, 1), 200);
+    same("no byte", WATTLESLATE_WRAPPED(32, 0), 0);
+}
+
 /* "A refusal tells 0 and 0", at every place. */
 static void drawing_refused(uint64_t number, uint64_t place) {
     uint64_t answer = refused(number, place);
@@ -46,10 +62,17 @@ int main(void) {
     drawn(1024, 0, 0);
     drawn(0, 1024, 1000);
     drawn(65535, 65534, 65533);
+    wrapped(0, 0, 0);
+    wrapped(0, 3, 2);
+    wrapped(3, 0, 1);
+    wrapped(0, 1024, 1024);
+    wrapped(65535, 65534, 65533);
+    wrapped_sizes();
     drawing_refused(16, 0);
     drawing_refused(6, 28);
     drawing_refused(5, 65536);
     drawing_refused(5, 281474976710655u);
+    drawing_refused(19, 1023);
     same("overlap of a join", wattleslate_overlap(values(0, 2, 3)), 2);
     same("overlap of a stack", wattleslate_stack_overlap(values(2, 10, 18)), 2);
     same("height", wattleslate_height(values(2, 10, 18)), 10);

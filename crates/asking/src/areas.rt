@@ -3,7 +3,7 @@ use crate::printing::quoted;
 use crate::printing::text;
 
 // The array of which it is lent.
-pub const MOST_ROOM: usize = 1100;
+pub const MOST_ROOM: usize = 2100;
 
 // An area that holds something before it is written to.
 pub fn used_output() -> [u8; MOST_ROOM] {

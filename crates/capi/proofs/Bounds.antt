@@ -7,7 +7,7 @@ use Prim.Native.Nat.{ℕ, _*_, _/_, _%_, _≤_}
 use native.Mathlib.Omega.{arith}
 use lib.ListN.{length}
 use Rattle.ground.specs.Limits.{maxFontLength}
-use Rattle.ground.specs.Refusals.{stackTooHigh}
+use Rattle.ground.specs.Refusals.{stackTooHigh, characterTooWide}
 use Rattle.ground.specs.declared.refusals.Refusal.{Refusal}
 use Rattle.ground.proofs.Tests.{clash}
 use Rattle.subchars.specs.declared.Mode.{Mode}
@@ -31,7 +31,7 @@ use Rattle.join.specs.JoinCall.{JoinTold, joinTells, joinTold}
 use Rattle.wattleslate.proofs.ToldApart.{draw-apart}
 use Rattle.source.specs.Source.{fontSource}
 use Rattle.source.proofs.CountLaws.{few-replaced}
-use Rattle.drawing.specs.Drawing.{textCodes}
+use Rattle.drawing.specs.Drawing.{textCodes, modeOf}
 use Rattle.drawing.proofs.DrawingLaws.{as-many}
 use Rattle.drawing.proofs.Answers.{DrawsTo, scratch-small, font-refused, control-refused, text-too-long, line-too-wide, output-small, draws, answer, one-of}
 use Rattle.join.proofs.Answers.{refused-tells, joined-within}
@@ -39,6 +39,10 @@ use Rattle.stack.specs.declared.StackAnswer.the-variants as stack-is
 use Rattle.stack.specs.StackCall.{StackTold, stackTells, stackTold}
 use Rattle.stack.proofs.Answers as stacks
 use Rattle.twolines.proofs.Answers as two-lines
+use Rattle.wrapping.specs.declared.WrapAnswer.{WrapAnswer}
+use Rattle.wrapping.specs.declared.WrapAnswer.the-variants as wrap-is
+use Rattle.wrapping.proofs.Answers as wraps
+use Rattle.wrapping.proofs.TextLines as text-lines
 use Rattle.capi.specs.Numbers.{valueBound, placeBound, refusedAt, threeValues, RefusalFits, ValuesFit}
 
 -- A caller that takes an answer apart finds what was put in: a refusal's number, which is not 0, and its place;
@@ -51,7 +55,7 @@ pub values-apart : (a b c : ℕ) → ValuesFit a b c →
 values-apart a b c p = (omega arith, omega arith, omega arith, omega arith)
 
 -- A number of the table and a place in a file have room.
-table-fits : (number place : ℕ) → 1 ≤ number → number ≤ stackTooHigh → place ≤ maxFontLength → RefusalFits number place
+table-fits : (number place : ℕ) → 1 ≤ number → number ≤ characterTooWide → place ≤ maxFontLength → RefusalFits number place
 table-fits number place l m n = record { not-0 = l; number-in-16 = omega arith; place-in-48 = omega arith }
 
 -- A font's: its Height is at most 32, and it has at most 512 characters.
@@ -158,3 +162,27 @@ module _ (size : ℕ) (s control upper lower : List ℕ) (room : ℕ) where
   lines-values-fit o h w e =
       let k = two-lines.lines-within size s control upper lower room o h w e in
       record { a-in-16 = omega (arith, k .0); b-in-16 = omega (arith, k .1); c-in-16 = omega (arith, k .2) }
+
+-- Those of a text in lines: there are no more of them than bytes.
+abbrev WrapFits : WrapAnswer → Type 0
+WrapFits (wrap-is.Wrapped lines n) = ValuesFit (n .«nothing_drawn») (n .«stood_in») lines
+WrapFits (wrap-is.Refused r) = RefusalFits (r .number) (r .place)
+
+module _ (firstRoom endRoom size : ℕ) (s control : List ℕ) (limit : ℕ) (text : List ℕ) (room : ℕ) where
+  by-cause : (a : WrapAnswer) → wraps.WrapsTo firstRoom endRoom size s control limit text room a → WrapFits a
+  by-cause _ (wraps.areas-small l) = table-fits _ _ (omega arith) (omega arith) (omega arith)
+  by-cause _ (wraps.font-refused u r f) = font-fits s r f
+  by-cause _ (wraps.control-refused u h es f r c) = control-fits control r c
+  by-cause _ (wraps.text-too-long x l) = table-fits _ _ (omega arith) (omega arith) (omega arith)
+  by-cause _ (wraps.limit-bad x t l) = table-fits _ _ (omega arith) (omega arith) (omega arith)
+  by-cause _ (wraps.character-wide x g l) = table-fits _ _ (omega arith) (omega arith) (omega (arith, l, g .short))
+  by-cause _ (wraps.output-small x g n l) = table-fits _ _ (omega arith) (omega arith) (omega arith)
+  by-cause _ (wraps.wraps x g n l) =
+      let t = g .short in
+      let few = few-replaced (fontSource s (x .characters)) (textCodes (x .commands) (x .stages) text) in
+      let many = as-many (x .commands) (x .stages) text in
+      let lines = text-lines.at-most (modeOf (x .header)) (x .header .height) (fontSource s (x .characters)) (x .commands) (x .stages) limit text n in
+      record { a-in-16 = omega (arith, few, many, t); b-in-16 = omega (arith, few, many, t); c-in-16 = omega (arith, lines, t) }
+
+  pub wrap-fits : (a : WrapAnswer) → a ≡ wraps.answer firstRoom endRoom size s control limit text room → WrapFits a
+  wrap-fits a e = subst WrapFits (sym e) (by-cause _ (wraps.one-of firstRoom endRoom size s control limit text room))

@@ -15,6 +15,9 @@ use Rattle.wattleslate.specs.ControlCall.{ControlTold}
 use Rattle.wattleslate.specs.DrawCall.{DrawTold}
 use Rattle.join.specs.JoinCall.{JoinTold, refusing, joinTold, joinArea}
 use Rattle.stack.specs.StackCall.{StackTold, noStackIf, stackTold, stackArea}
+use Rattle.wrapping.specs.declared.WrapAnswer.{WrapAnswer}
+use Rattle.wrapping.specs.declared.WrapAnswer.the-variants as wrap-is
+use Rattle.wrapping.specs.declared.WrapAnswer.the-variants.{Wrapped}
 
 -- A value is below this, as is a refusal's number: 16 bits.
 abbrev pub valueBound : ℕ
@@ -59,6 +62,11 @@ controlNumber t = telling (t .refused) (t .number) (t .place) (threeValues 0 (t 
 -- "The answer gives the width." 02, Q-2: and how many text bytes drew nothing, and how many were stood in.
 abbrev pub drawNumber : DrawTold → ℕ
 drawNumber t = telling (t .refused) (t .number) (t .place) (threeValues (t .nothingDrawn) (t .stoodIn) (t .width))
+
+-- "How many lines, and Q-2's two counts of the whole text."
+abbrev pub wrapNumber : WrapAnswer → ℕ
+wrapNumber (Wrapped lines counts) = threeValues (counts .«nothing_drawn») (counts .«stood_in») lines
+wrapNumber (wrap-is.Refused r) = refusedAt (r .number) (r .place)
 
 -- "It answers the overlap and the result width."
 abbrev pub joinNumber : JoinTold → ℕ

@@ -12,6 +12,7 @@ use subchars::VerticalLayout;
 use wattleslate::JoinAnswer;
 use wattleslate::LinesAnswer;
 use wattleslate::StackAnswer;
+use wattleslate::WrapAnswer;
 ghost use mathlib.Core.Path.{_≡_};
 ghost use lib.ListN.{length};
 ghost use Rattle.ground.specs.Area.{zeros};
@@ -22,7 +23,8 @@ ghost use Rattle.reader.specs.Reader.{fontAnswer};
 ghost use Rattle.wattleslate.specs.ControlCall.{controlTold};
 ghost use Rattle.wattleslate.specs.DrawCall.{drawTold, drawOutput};
 ghost use Rattle.twolines.specs.TwoLines.{drawLines, linesTold, linesOutput};
-ghost use Rattle.capi.specs.Numbers.{refusedAt, RefusalFits, threeValues, ValuesFit, fontNumber, controlNumber, drawNumber, joinNumber, joinTaken, joinLeft, stackNumber, stackTaken, stackLeft};
+ghost use Rattle.wrapping.specs.Wrapping.{drawWrapped, wrapIn, wrapAnswer, wrapFirsts, wrapEnds, wrapOutput};
+ghost use Rattle.capi.specs.Numbers.{refusedAt, RefusalFits, threeValues, ValuesFit, fontNumber, controlNumber, drawNumber, wrapNumber, joinNumber, joinTaken, joinLeft, stackNumber, stackTaken, stackLeft};
 
 // A value is below this, as is a refusal's number: 16 bits.
 const VALUE_BOUND: u64 = 65536;
@@ -205,5 +207,31 @@ pub extern "C" fn wattleslate_draw_stacked(
             counts: _,
         } => three_values(o, h, w),
         LinesAnswer::Refused(r) => refused_at(r.number, r.place),
+    }
+}
+
+// Draws a text in lines, and answers how many text bytes drew nothing, how many were stood in, and how many lines: `wattleslate::draw_wrapped`.
+#[no_mangle]
+pub extern "C" fn wattleslate_draw_wrapped(
+    font: &[u8],
+    control: &[u8],
+    text: &[u8],
+    limit: usize,
+    scratch: &mut [u8],
+    firsts: &mut [usize],
+    ends: &mut [usize],
+    out: &mut [u8],
+) -> u64
+    ensures answer { λ r. ⌜ r ≡ wrapNumber (wrapAnswer (wrapIn (length (now (out .entry))) (drawWrapped (length (now (firsts .entry))) (length (now (ends .entry))) (length (now (scratch .entry))) (now (font .entry)) (now (control .entry)) limit (now (text .entry))))) ⌝ }
+    ensures firsts { λ r. ⌜ now (firsts .exit) ≡ wrapFirsts (drawWrapped (length (now (firsts .entry))) (length (now (ends .entry))) (length (now (scratch .entry))) (now (font .entry)) (now (control .entry)) limit (now (text .entry))) (length (now (out .entry))) (length (now (firsts .entry))) ⌝ }
+    ensures ends { λ r. ⌜ now (ends .exit) ≡ wrapEnds (drawWrapped (length (now (firsts .entry))) (length (now (ends .entry))) (length (now (scratch .entry))) (now (font .entry)) (now (control .entry)) limit (now (text .entry))) (length (now (out .entry))) (length (now (ends .entry))) ⌝ }
+    ensures output { λ r. ⌜ now (out .exit) ≡ wrapOutput (drawWrapped (length (now (firsts .entry))) (length (now (ends .entry))) (length (now (scratch .entry))) (now (font .entry)) (now (control .entry)) limit (now (text .entry))) (length (now (out .entry))) ⌝ }
+    ensures scratch { λ r. ⌜ now (scratch .exit) ≡ zeros (length (now (scratch .entry))) ⌝ }
+{
+    match wattleslate::draw_wrapped(font, control, text, limit, scratch, firsts, ends, out) {
+        WrapAnswer::Wrapped { lines, counts } => {
+            three_values(counts.nothing_drawn, counts.stood_in, lines)
+        }
+        WrapAnswer::Refused(r) => refused_at(r.number, r.place),
     }
 }

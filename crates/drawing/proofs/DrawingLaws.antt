@@ -20,7 +20,7 @@ use Rattle.source.specs.Counting.{isNothing, one, howMany, countsOf, counted}
 use Rattle.source.proofs.CountLaws.{counts-more}
 use Rattle.flc.specs.declared.Command.{Command}
 use Rattle.flc.specs.Mapping.{mapStages}
-use Rattle.drawing.specs.Drawing.{codesOf, mappedCodes, textCodes, withChoice, charactersOf, lineOf, traceOf}
+use Rattle.drawing.specs.Drawing.{codesOf, mappedCodes, textCodes, withChoice, charactersOf, byteChoice, lineOf, traceOf}
 use Rattle.drawing.specs.Steps.{withCharacter}
 
 -- Joining in turn goes on from what was joined.
@@ -76,7 +76,7 @@ module _ (source : Source) where
 
     module _ (cs : List Command) (k : ℕ) where
       -- a byte more at the end of a text is one character more at the line, or none
-      pub one-join-more : (text : List ℕ) (b : ℕ) → lineOf y h source (textCodes cs k (text ++ (b ∷ []))) ≡ withCharacter y h (source (mapStages cs 0 k (code (pos b)))) (lineOf y h source (textCodes cs k text))
+      pub one-join-more : (text : List ℕ) (b : ℕ) → lineOf y h source (textCodes cs k (text ++ (b ∷ []))) ≡ withCharacter y h (byteChoice source cs k b) (lineOf y h source (textCodes cs k text))
       unfolding codesOf mappedCodes
       one-join-more text b = ap (lineOf y h source) (codes-append cs k text (b ∷ [])) ∙ one-code-more (textCodes cs k text) (mapStages cs 0 k (code (pos b)))
 
@@ -87,7 +87,7 @@ module _ (source : Source) where
 
 -- The counts of a text and of one byte more.
 module _ (source : Source) (cs : List Command) (k : ℕ) where
-  pub one-byte-counted : (text : List ℕ) (b : ℕ) → countsOf source (textCodes cs k (text ++ (b ∷ []))) ≡ counted (source (mapStages cs 0 k (code (pos b)))) (countsOf source (textCodes cs k text))
+  pub one-byte-counted : (text : List ℕ) (b : ℕ) → countsOf source (textCodes cs k (text ++ (b ∷ []))) ≡ counted (byteChoice source cs k b) (countsOf source (textCodes cs k text))
   unfolding codesOf mappedCodes
   one-byte-counted text b = ap (countsOf source) (codes-append cs k text (b ∷ [])) ∙ counts-more source (textCodes cs k text) (mapStages cs 0 k (code (pos b)))
 

@@ -6,10 +6,8 @@ use mathlib.Core.List.{List, []}
 use native.Mathlib.Omega.{arith}
 use native.Mathlib.Nat.{zero-add}
 use native.Mathlib.Numerals.{add-one}
-use lib.IntN.{pos}
 use lib.ListN.{length, drop, getD, drop-of-length-le}
 use lib.Seq.{drop-cons}
-use Rattle.subchars.specs.declared.Code.{Code}
 use Rattle.subchars.specs.declared.Mode.{Mode}
 use Rattle.join.specs.Join.{Block}
 use Rattle.join.proofs.Likeness.{like-trans}
@@ -17,13 +15,11 @@ use Rattle.join.specs.Writing.{Like}
 use Rattle.figure.specs.Line.{empty, lineFrom}
 use Rattle.figure.specs.Scratch.{scratchLine}
 use Rattle.figure.proofs.Folding.{from-like, grows}
-use Rattle.chars.specs.Codes.{code}
 use Rattle.source.specs.Source.{Choice, found, stoodIn, nothing, Source}
 use Rattle.source.specs.Counting.{isMissing, one, howMany}
 use Rattle.source.proofs.CountLaws.{few-missing}
 use Rattle.flc.specs.declared.Command.{Command}
-use Rattle.flc.specs.Mapping.{mapStages}
-use Rattle.drawing.specs.Drawing.{codesOf, mappedCodes, textCodes, withChoice, charactersOf, lineOf}
+use Rattle.drawing.specs.Drawing.{codesOf, mappedCodes, textCodes, withChoice, charactersOf, byteChoice, lineOf}
 use Rattle.drawing.specs.Steps.{withCharacter, Reached}
 
 module _ (y : Mode) (h : ℕ) (source : Source) where
@@ -51,7 +47,7 @@ module _ (y : Mode) (h : ℕ) (source : Source) where
 
     -- one byte more
     choice-at : ℕ → Choice
-    choice-at i = source (mapStages cs 0 k (code (pos (getD text i 0))))
+    choice-at i = byteChoice source cs k (getD text i 0)
 
     rest-next : (i : ℕ) → i < length text → rest-from i ≡ withChoice (choice-at i) (rest-from (i + 1))
     unfolding codesOf mappedCodes charactersOf choice-at
@@ -70,23 +66,23 @@ module _ (y : Mode) (h : ℕ) (source : Source) where
             beyond = λ w. absurd (omega arith);
           }
 
-      module _ (u : i < length text) (c : Code) (is : c ≡ mapStages cs 0 k (code (pos (getD text i 0)))) where
-        step : Like h (lineFrom y h (withCharacter y h (source c) line) (rest-from (i + 1))) whole
-        unfolding choice-at
-        step =
-            subst (λ (x : Block). Like h x whole)
-            (ap (lineFrom y h line) (rest-next i u ∙ ap (λ (z : Code). withChoice (source z) (rest-from (i + 1))) (sym is)) ∙ one-more (source c) (rest-from (i + 1)) line)
-            toward
+      module _ (u : i < length text) where
+        abbrev longer : Block
+        longer = withCharacter y h (byteChoice source cs k (getD text i 0)) line
 
-        module _ (area′ : List ℕ) (m : ℕ) (x : Reached y h limit m area′ (withCharacter y h (source c) line)) where
+        step : Like h (lineFrom y h longer (rest-from (i + 1))) whole
+        unfolding choice-at
+        step = subst (λ (x : Block). Like h x whole) (ap (lineFrom y h line) (rest-next i u) ∙ one-more (byteChoice source cs k (getD text i 0)) (rest-from (i + 1)) line) toward
+
+        module _ (area′ : List ℕ) (m : ℕ) (x : Reached y h limit m area′ longer) where
           pub toward-next : m ≤ limit → Toward area′ m (i + 1)
-          toward-next v = like-trans h _ _ _ (from-like y h (scratchLine (y .direction) m area′) (withCharacter y h (source c) line) (rest-from (i + 1)) (x .within v)) step
+          toward-next v = like-trans h _ _ _ (from-like y h (scratchLine (y .direction) m area′) longer (rest-from (i + 1)) (x .within v)) step
 
           pub toward-beyond : limit < m → Reached y h limit m area′ whole
           toward-beyond v =
               record {
                 within = λ w. absurd (omega arith);
-                beyond = λ w. omega (arith, x .beyond v, grows y h (withCharacter y h (source c) line) (rest-from (i + 1)), step .width);
+                beyond = λ w. omega (arith, x .beyond v, grows y h longer (rest-from (i + 1)), step .width);
               }
 
 -- The codes that are missing, with those of the text from its i-th byte on, are those of the text.
@@ -116,12 +112,13 @@ module _ (source : Source) (cs : List Command) (k : ℕ) (text : List ℕ) where
         omega (arith, a)
 
     -- one byte more
-    module _ (u : i < length text) (c : Code) (is : c ≡ mapStages cs 0 k (code (pos (getD text i 0)))) where
-      from-next : missing-from i ≡ one (isMissing (source c)) + missing-from (i + 1)
-      unfolding codesOf mappedCodes howMany
-      from-next =
-          ap (λ (t : List ℕ). howMany isMissing source (textCodes cs k t)) (drop-cons text i 0 u) ∙ ap (λ (j : ℕ). one (isMissing (source (mapStages cs 0 k (code (pos (getD text i 0)))))) + missing-from j) (sym (add-one i)) ∙
-          ap (λ (z : Code). one (isMissing (source z)) + missing-from (i + 1)) (sym is)
+    module _ (u : i < length text) where
+      abbrev one-here : ℕ
+      one-here = one (isMissing (byteChoice source cs k (getD text i 0)))
 
-      pub counted-next : (n : ℕ) → n ≡ m + one (isMissing (source c)) → Counted n (i + 1)
+      from-next : missing-from i ≡ one-here + missing-from (i + 1)
+      unfolding codesOf mappedCodes howMany
+      from-next = ap (λ (t : List ℕ). howMany isMissing source (textCodes cs k t)) (drop-cons text i 0 u) ∙ ap (λ (j : ℕ). one-here + missing-from j) (sym (add-one i))
+
+      pub counted-next : (n : ℕ) → n ≡ m + one-here → Counted n (i + 1)
       counted-next n e = record { whole = omega (arith, e, so .whole, from-next) }

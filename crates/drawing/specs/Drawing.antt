@@ -58,6 +58,10 @@ unfoldable pub charactersOf : Source → List Code → List Block
 charactersOf source [] = []
 charactersOf source (c ∷ cs) = withChoice (source c) (charactersOf source cs)
 
+-- The same for one byte of a text: what a source has for its code, mapped.
+abbrev pub byteChoice : Source → List Command → ℕ → ℕ → Choice
+byteChoice source commands stages byte = source (mapStages commands 0 stages (code (pos byte)))
+
 -- 4. "Joins in turn, at the right if Print_Direction is 0 or absent, at the left if 1": by the join of the call `join`. Steps 3 and 4 for characters of
 -- the given height.
 unfoldable pub lineOf : Mode → ℕ → Source → List Code → Block

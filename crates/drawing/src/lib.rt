@@ -16,7 +16,7 @@ use subchars::Direction;
 use subchars::Mode;
 ghost use mathlib.Core.Path.{_≡_};
 ghost use mathlib.Core.List.{List};
-ghost use Prim.Native.Nat.{ℕ, _≤_};
+ghost use Prim.Native.Nat.{ℕ, _<_, _≤_};
 ghost use lib.IntN.{pos};
 ghost use lib.ListN.{length};
 ghost use Rattle.ground.specs.Area.{zeros};
@@ -33,7 +33,7 @@ ghost use Rattle.source.specs.Source.{Choice, Source};
 ghost use Rattle.source.specs.Counting.{countsOf};
 ghost use Rattle.source.specs.Held.{FontHeld, Gives};
 ghost use Rattle.source.specs.Steps.{ChosenAs};
-ghost use Rattle.drawing.specs.Drawing.{directionOf, modeOf, textCodes, lineOf, Lined, linedText, linedOf, drawLined, withCounts, PutOut};
+ghost use Rattle.drawing.specs.Drawing.{directionOf, modeOf, textCodes, byteChoice, lineOf, Lined, linedText, linedOf, drawLined, withCounts, PutOut};
 ghost use Rattle.drawing.specs.Held.{filesOf, FilesHeld};
 ghost use Rattle.drawing.specs.Steps.{withCharacter, Reached, TextDrawn};
 
@@ -84,8 +84,9 @@ pub fn mode_of(header: Header) -> Mode
     }
 }
 
-// Joins the character that was chosen for a code to the line, n wide, in the area; answers the new width. Its rows start at the places found.
-fn draw_chosen(
+// Joins the character that was chosen for a code to the line, n wide, in the area; answers the new width. Its rows start at the places found. A line that
+// would be wider than the limit leaves the area as it was.
+pub fn draw_chosen(
     area: &mut [u8],
     chosen: Chosen,
     found: &[usize],
@@ -100,6 +101,7 @@ fn draw_chosen(
     requires { ⌜ (n ≤ limit) × (limit ≤ maxLineWidth) × (height ≤ maxHeight) × (minScratch ≤ length (now area)) ⌝ }
     requires { ⌜ RowAfterRow maxLineWidth height (now rows) ⌝ }
     ensures { λ w. ⌜ ((x : Choice) → ChosenAs (now (font .entry)) (now (found .entry)) height chosen x → Reached mode height limit w (now (area .exit)) (withCharacter mode height x (scratchLine (mode .direction) n (now (area .entry))))) ⌝ }
+    ensures { λ w. ⌜ (limit < w → now (area .exit) ≡ now (area .entry)) ⌝ }
 {
     match chosen {
         Chosen::Character { width, own: _ } => {
@@ -115,6 +117,43 @@ fn code_of(byte: u8) -> Code
     ensures { λ r. ⌜ r ≡ code (pos byte) ⌝ }
 {
     Code(byte as i32)
+}
+
+// The character that is drawn for a byte of a text, of the given height; where its rows start is written into a lent list.
+pub fn choose_byte(
+    byte: u8,
+    font: &[u8],
+    height: usize,
+    count: usize,
+    codes: &[i32],
+    starts: &[usize],
+    widths: &[usize],
+    places: &[usize],
+    commands: usize,
+    stages: &[usize],
+    firsts: &[i32],
+    lasts: &[i32],
+    news: &[i32],
+    found: &mut [usize],
+) -> Chosen
+    requires { ⌜ ((source : Source) × Gives source (now font) height count (now codes) (now starts) (now widths) (now places)) ⌝ }
+    requires { ⌜ ((control : List ℕ) × ControlHeld control commands (now stages) (now firsts) (now lasts) (now news)) ⌝ }
+    requires { ⌜ maxHeight ≤ length (now found) ⌝ }
+    ensures { λ r. ⌜ ((source : Source) → Gives source (now (font .entry)) height count (now (codes .entry)) (now (starts .entry)) (now (widths .entry)) (now (places .entry)) → (control : List ℕ) (held : ControlHeld control commands (now (stages .entry)) (now (firsts .entry)) (now (lasts .entry)) (now (news .entry))) → ChosenAs (now (font .entry)) (now (found .exit)) height r (byteChoice source (held .commands) (held .count) byte)) ⌝ }
+{
+    let own = code_of(byte);
+    let code = mapping::map_by(stages, firsts, lasts, news, commands, own);
+    source::choose(
+        code,
+        font,
+        height,
+        count,
+        codes,
+        starts,
+        widths,
+        places,
+        found,
+    )
 }
 
 // Joins the characters of a text in turn, from an empty line on, and counts the codes that are not in the font. It stops where the line passes the limit.
@@ -147,10 +186,8 @@ pub fn join_text(
     let mut missing: usize = 0;
     let mut i: usize = 0;
     while i < text.len() {
-        let byte = code_of(text[i]);
-        let code = mapping::map_by(stages, firsts, lasts, news, commands, byte);
-        let chosen = source::choose(
-            code,
+        let chosen = choose_byte(
+            text[i],
             font,
             height,
             count,
@@ -158,6 +195,11 @@ pub fn join_text(
             starts,
             widths,
             places,
+            commands,
+            stages,
+            firsts,
+            lasts,
+            news,
             &mut found,
         );
         n = draw_chosen(area, chosen, &found, &rows, n, limit, mode, height, font);

@@ -41,7 +41,7 @@ fn draw_in(font: &[u8], control: &[u8], t: &[u8], scratch: &mut [u8], out: &mut 
 
 // Draws in areas of some size.
 fn draw(font: &[u8], control: &[u8], t: &[u8], size: usize, room: usize)
-    requires { ⌜ (size ≤ 32001) × (room ≤ 1100) ⌝ }
+    requires { ⌜ (size ≤ 32001) × (room ≤ 2100) ⌝ }
 {
     let mut scratch = used_scratch();
     let mut out = used_output();

@@ -74,7 +74,7 @@ fn join_in(m: Manner, s: Shape, line: &[u8], character: &[u8], out: &mut [u8]) {
 
 // Joins in an area of some size.
 fn join(m: Manner, s: Shape, line: &[u8], character: &[u8], room: usize)
-    requires { ⌜ room ≤ 1100 ⌝ }
+    requires { ⌜ room ≤ 2100 ⌝ }
 {
     let mut out = used_output();
     join_in(m, s, line, character, &mut out[..room]);

@@ -86,7 +86,7 @@ fn stack(
     lower: &[u8],
     room: usize,
 )
-    requires { ⌜ room ≤ 1100 ⌝ }
+    requires { ⌜ room ≤ 2100 ⌝ }
 {
     let mut out = used_output();
     stack_in(layout, hardblank, s, upper, lower, &mut out[..room]);

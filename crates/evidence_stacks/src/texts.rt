@@ -55,7 +55,7 @@ fn draw_in(
 
 // Draws in areas of some size.
 fn draw(font: &[u8], control: &[u8], upper: &[u8], lower: &[u8], size: usize, room: usize)
-    requires { ⌜ (size ≤ 64001) × (room ≤ 1100) ⌝ }
+    requires { ⌜ (size ≤ 64001) × (room ≤ 2100) ⌝ }
 {
     let mut scratch = used_scratch();
     let mut out = used_output();

@@ -1,6 +1,6 @@
 -- The promises: every sentence of the three demands, every row of the refusal table and the sentences of the requests that have landed, in the papers' order,
 -- each as a theorem about the definitions that the contracts of the public calls cite. A statement stands here in full, but for a few data types of the crates below that it names:
--- how far the lines of a file are good (`Comes`, `Reaches`), how characters stand (`InOrder`, `EachTagged`), `Last`, `NoneFits` and `Fails`. Its proof is one
+-- how far the lines of a file are good (`Comes`, `Reaches`), how characters stand (`InOrder`, `EachTagged`), how the lines of a text stand (`InOrder`, `Apart`, `pieces`), `Last`, `NoneFits` and `Fails`. Its proof is one
 -- line that cites the law, so that what lies behind need not be opened.
 -- Assumes nothing.
 use mathlib.Core.Path.{_≡_, refl, ap}
@@ -16,8 +16,8 @@ use lib.ListN.{length, getD, take, drop, replicate}
 use borrow.Author.Tests.{eq-eqb, ne-eqb}
 use Rattle.ground.specs.Area.{zeros}
 use Rattle.ground.specs.Text.{byte, bytes, among}
-use Rattle.ground.specs.Limits.{maxFontLength, maxControlFile, maxText, maxLineWidth, maxHeight, maxStackHeight, maxCharacters, maxCommands, minScratch, minStackedScratch, maxCharacterWidth, maxRules, maxStages}
-use Rattle.ground.specs.Refusals.{refusal, fontTooLong, noSignature, badHardblank, badParameters, tooManyCharacters, areaTooSmall, controlFileTooLong, notACommand, badRanges, extendedCommand, tooManyCommands, textTooLong, lineTooWide, badShape, stackTooHigh, missingLine, badRow, badCodeTag}
+use Rattle.ground.specs.Limits.{maxFontLength, maxControlFile, maxText, maxLineWidth, maxHeight, maxStackHeight, maxCharacters, maxCommands, minLines, minScratch, minStackedScratch, maxCharacterWidth, maxRules, maxStages}
+use Rattle.ground.specs.Refusals.{refusal, fontTooLong, noSignature, badHardblank, badParameters, tooManyCharacters, areaTooSmall, controlFileTooLong, notACommand, badRanges, extendedCommand, tooManyCommands, textTooLong, lineTooWide, badShape, stackTooHigh, characterTooWide, missingLine, badRow, badCodeTag}
 use Rattle.ground.specs.Runs.{run, all, begins}
 use Rattle.ground.specs.declared.refusals.Refusal.{Refusal}
 use Rattle.ground.proofs.Tests.{clash}
@@ -125,8 +125,8 @@ use Rattle.flc.proofs.TableLaws as control-rows
 use Rattle.flc.proofs.TableLaws.{Reaches}
 use Rattle.flc.proofs.MappingLaws as mapping
 use Rattle.flc.proofs.MappingLaws.{NoneFits}
-use Rattle.source.specs.Source.{Source}
-use Rattle.drawing.specs.Drawing.{charactersOf, fontLine, fontCounts, lineOf, textCodes}
+use Rattle.source.specs.Source.{Source, fontSource}
+use Rattle.drawing.specs.Drawing.{charactersOf, byteChoice, fontLine, fontCounts, lineOf, textCodes}
 use Rattle.drawing.specs.Steps.{withCharacter}
 use Rattle.drawing.proofs.Answers as drawing
 use Rattle.drawing.proofs.DrawingLaws as drawings
@@ -134,6 +134,16 @@ use Rattle.twolines.specs.TwoLines.{verticalOf, verticalBy, TwoLines, bothCount
 use Rattle.twolines.proofs.Answers as line-answers
 use Rattle.twolines.proofs.TableLaws as line-rows
 use Rattle.twolines.proofs.Bytes as line-bytes
+use Rattle.wrapping.specs.declared.WrapAnswer.{WrapAnswer}
+use Rattle.wrapping.specs.declared.WrapAnswer.the-variants as wrap-is
+use Rattle.wrapping.specs.Words.{isBreak, inWord, wordFrom, wordBehind, endsWord}
+use Rattle.wrapping.specs.Breaking.{Span, span, spanEnd, spansFrom, spansOf}
+use Rattle.wrapping.specs.Wrapping.{wideIn, drawings, choiceWidth, firstWider, Wrap, drawWrapped, wrapIn, wrapAnswer, wrapFirsts, wrapEnds, wrapOutput}
+use Rattle.wrapping.specs.Steps.{lastBehind}
+use Rattle.wrapping.proofs.Answers as wrap-answers
+use Rattle.wrapping.proofs.BreakingLaws as breaks
+use Rattle.wrapping.proofs.TableLaws as wrap-rows
+use Rattle.wrapping.proofs.TextLines as text-lines
 use Rattle.wattleslate.specs.declared.RowRefusal.the-variants.{NotRefused, Refused}
 use Rattle.wattleslate.specs.RowCall.{rowTells, rowTold, rowBytes}
 use Rattle.wattleslate.specs.declared.LookUpAnswer.the-variants as look-up-is
@@ -607,7 +617,7 @@ module _ (y : Mode) (h n : ℕ) (line : List ℕ) (m : ℕ) (character : List �
 
 -- "Drawing maps each text byte's code, looks it up, and joins in turn": a byte more at the end of a text is one character more at the line, or none.
 one-byte-one-join : (source : Source) (y : Mode) (h : ℕ) (cs : List Command) (k : ℕ) (text : List ℕ) (b : ℕ) →
-    lineOf y h source (textCodes cs k (text ++ (b ∷ []))) ≡ withCharacter y h (source (mapStages cs 0 k (code (pos b)))) (lineOf y h source (textCodes cs k text))
+    lineOf y h source (textCodes cs k (text ++ (b ∷ []))) ≡ withCharacter y h (byteChoice source cs k b) (lineOf y h source (textCodes cs k text))
 one-byte-one-join = drawings.one-join-more
 
 -- "The first character loses nothing at its edge."
@@ -1046,7 +1056,7 @@ look-up-in-an-index es count c u = (entries.entry-apart (lookedUp c (take count 
 -- any control file,
 module _ (source : Source) (cs : List Command) (k : ℕ) where
   -- each text byte is counted by the code that it is mapped to,
-  counts-of-one-byte-more : (text : List ℕ) (b : ℕ) → countsOf source (textCodes cs k (text ++ (b ∷ []))) ≡ counted (source (mapStages cs 0 k (code (pos b)))) (countsOf source (textCodes cs k text))
+  counts-of-one-byte-more : (text : List ℕ) (b : ℕ) → countsOf source (textCodes cs k (text ++ (b ∷ []))) ≡ counted (byteChoice source cs k b) (countsOf source (textCodes cs k text))
   counts-of-one-byte-more = drawings.one-byte-counted source cs k
 
   -- and "the number of characters drawn, plus those that drew nothing, is the number of text bytes".
@@ -1137,3 +1147,157 @@ row-so-marked = row-lines.row-so-marked
 -- "Demand 2 reads the mended rule": so is the line of every row that a row request gives.
 row-given-by-the-rule : (s : List ℕ) (c : Code) (r p w : ℕ) → rowTold s c r ≡ rowTells (NotRefused p w) → Marked (textAt s p) × (rowBytes s c r ≡ row (textAt s p))
 row-given-by-the-rule = row-calls.line-told
+
+-- ================================================================ document 02, Q-4
+
+-- A text drawn by a font s and a control file in lines at most a limit wide: "9 (firsts or ends under 1,024 entries, scratch under 32,000), font, control, 15, .. 17
+-- (limit outside 1 to 1,000), 19, 9 (out)".
+module _ (firstRoom endRoom size : ℕ) (s control : List ℕ) (limit : ℕ) (text : List ℕ) (room : ℕ) where
+  -- The lists and the scratch are large enough,
+  abbrev ListsEnough : Type 0
+  ListsEnough = (minLines ≤ firstRoom) × (minLines ≤ endRoom) × (minScratch ≤ size)
+
+  -- the files say this,
+  abbrev LineFilesSay : Header → List Entry → List Command → ℕ → Type 0
+  LineFilesSay h es cs k = ListsEnough × (reading s ≡ says h es) × (flc.control control ≡ flc.reads cs k)
+
+  -- and the text is not too long and "a column limit from 1 to 1,000".
+  abbrev LimitGood : Type 0
+  LimitGood = (length text ≤ maxText) × (1 ≤ limit) × (limit ≤ maxLineWidth)
+
+  -- "A single character other than a blank wider than the limit", "after mapping and stand-in".
+  abbrev WiderAt : List Entry → List Command → ℕ → ℕ → Type 0
+  WiderAt es cs k p = (p < length text) × (inWord (getD text p 0) ≡ true) × (limit < choiceWidth (byteChoice (fontSource s es) cs k (getD text p 0)))
+
+  -- The lines, and "the drawings of the lines follow one another, each in its own width".
+  abbrev linesFor : Header → List Entry → List Command → ℕ → List Span
+  linesFor h es cs k = spansOf (wideIn (fontLine s h es cs k) text) limit text
+
+  abbrev drawingsFor : Header → List Entry → List Command → ℕ → List ℕ
+  drawingsFor h es cs k = drawings (h .hardblank .0) (h .height) (fontLine s h es cs k) text (linesFor h es cs k)
+
+  abbrev wrapDrawn : Wrap
+  wrapDrawn = drawWrapped firstRoom endRoom size s control limit text
+
+  abbrev Wraps : WrapAnswer → Type 0
+  Wraps a = wrapAnswer (wrapIn room wrapDrawn) ≡ a
+
+  font-refusals-of-draw-wrapped : (r : Refusal) → r .number ≤ tooManyCharacters → Wraps (wrap-is.Refused r) ↔ (ListsEnough × (reading s ≡ refuses r))
+  font-refusals-of-draw-wrapped = wrap-rows.row-font firstRoom endRoom size s control limit text room
+
+  control-refusals-of-draw-wrapped : (r : Refusal) → controlFileTooLong ≤ r .number → r .number ≤ tooManyCommands →
+      Wraps (wrap-is.Refused r) ↔ (ListsEnough × (h : Header) × (es : List Entry) × (reading s ≡ says h es) × (flc.control control ≡ flc.refuses r))
+  control-refusals-of-draw-wrapped = wrap-rows.row-control firstRoom endRoom size s control limit text room
+
+  -- 9, at 0: "room for under 1,024 lines is 9, first", and the scratch; or else, behind all others, the output.
+  refusal-9-of-draw-wrapped : (p : ℕ) →
+      Wraps (wrap-is.Refused (refusal areaTooSmall p)) ↔
+      ((p ≡ 0) ×
+      (((firstRoom < minLines) ⊎ ((endRoom < minLines) ⊎ (size < minScratch))) ⊎
+      ((h : Header) × (es : List Entry) × (cs : List Command) × (k : ℕ) × (LineFilesSay h es cs k) × LimitGood × ((q : ℕ) → WiderAt es cs k q → ⊥) ×
+      (room < length (drawingsFor h es cs k)))))
+  refusal-9-of-draw-wrapped = wrap-rows.row-9 firstRoom endRoom size s control limit text room
+
+  refusal-15-of-draw-wrapped : (p : ℕ) →
+      Wraps (wrap-is.Refused (refusal textTooLong p)) ↔
+      ((p ≡ 0) × (h : Header) × (es : List Entry) × (cs : List Command) × (k : ℕ) × (LineFilesSay h es cs k) × (maxText < length text))
+  refusal-15-of-draw-wrapped = wrap-rows.row-15 firstRoom endRoom size s control limit text room
+
+  -- "17 for a limit out of range, after 15,
+  refusal-17-of-draw-wrapped : (p : ℕ) →
+      Wraps (wrap-is.Refused (refusal badShape p)) ↔
+      ((p ≡ 0) × (h : Header) × (es : List Entry) × (cs : List Command) × (k : ℕ) × (LineFilesSay h es cs k) × (length text ≤ maxText) × ((limit < 1) ⊎ (maxLineWidth < limit)))
+  refusal-17-of-draw-wrapped = wrap-rows.row-17 firstRoom endRoom size s control limit text room
+
+  -- then 19, a single character other than a blank wider than the limit, with the place in the text of the first such one."
+  refusal-19-of-draw-wrapped : (p : ℕ) →
+      Wraps (wrap-is.Refused (refusal characterTooWide p)) ↔
+      ((h : Header) × (es : List Entry) × (cs : List Command) × (k : ℕ) × (LineFilesSay h es cs k) × LimitGood × (WiderAt es cs k p × ((q : ℕ) → q < p → WiderAt es cs k q → ⊥)))
+  refusal-19-of-draw-wrapped = wrap-rows.row-19 firstRoom endRoom size s control limit text room
+
+  -- "16 is not given by this call."
+  no-refusal-16-of-draw-wrapped : (p : ℕ) → Wraps (wrap-is.Refused (refusal lineTooWide p)) → ⊥
+  no-refusal-16-of-draw-wrapped p e = wrap-answers.never-16 firstRoom endRoom size s control limit text room (rw e refl)
+
+  -- Otherwise "how many lines, and Q-2's two counts of the whole text".
+  wraps-otherwise : (n : ℕ) (counts : Counts) →
+      Wraps (wrap-is.Wrapped n counts) ↔
+      ((h : Header) × (es : List Entry) × (cs : List Command) × (k : ℕ) × (LineFilesSay h es cs k) × LimitGood × ((q : ℕ) → WiderAt es cs k q → ⊥) ×
+      (length (drawingsFor h es cs k) ≤ room) × (n ≡ length (linesFor h es cs k)) × (counts ≡ fontCounts s es cs k text))
+  wraps-otherwise = wrap-rows.row-wrapped firstRoom endRoom size s control limit text room
+
+  -- "A refusal fills every lent writable area with zeros"; the scratch is zeros after every answer by the call's contract.
+  draw-wrapped-wiped : (r : Refusal) → Wraps (wrap-is.Refused r) → (wrapFirsts wrapDrawn room firstRoom ≡ zeros firstRoom) × (wrapEnds wrapDrawn room endRoom ≡ zeros endRoom) × (wrapOutput wrapDrawn room ≡ zeros room)
+  draw-wrapped-wiped = wiping.wrap-wiped wrapDrawn firstRoom endRoom room
+
+-- The lines of a text, whatever gives the characters, by any control file, where 19 is not given.
+module _ (y : Mode) (h : ℕ) (source : Source) (cs : List Command) (k limit : ℕ) (text : List ℕ)
+    (none : (p : ℕ) → (p < length text) × (inWord (getD text p 0) ≡ true) × (limit < choiceWidth (byteChoice source cs k (getD text p 0))) → ⊥) where
+  -- "A line is the part of the text from its first word's first byte to the end of its last; its characters are drawn as a text of their own."
+  abbrev lineOfPart : ℕ → ℕ → Block
+  lineOfPart b e = lineOf y h source (textCodes cs k (take (e - b) (drop b text)))
+
+  abbrev wide : ℕ → ℕ → ℕ
+  wide b e = lineOfPart b e .width
+
+  abbrev textLines : List Span
+  textLines = spansOf wide limit text
+
+  abbrev drawn : List Span → List ℕ
+  drawn = drawings (y .hardblank .0) h (λ t. lineOf y h source (textCodes cs k t)) text
+
+  abbrev narrow : length text ≤ firstWider source cs k limit text
+  narrow = wrap-rows.wider-none source cs k limit text none
+
+  -- Of each line:
+  module _ (before behind : List Span) (x : Span) (is : textLines ≡ before ++ (x ∷ behind)) where
+    abbrev this : text-lines.TextLine y h source cs k limit text narrow (x .first) (x .behind)
+    this = text-lines.line-at y h source cs k limit text narrow before x behind is
+
+    -- "each line's first byte and the place behind its last" are those of bytes in words,
+    line-starts-with-a-word : inWord (getD text (x .first) 0) ≡ true
+    line-starts-with-a-word = this .starts
+
+    line-ends-with-a-word : (x .first < x .behind) × (x .behind ≤ length text) × (inWord (getD text (x .behind - 1) 0) ≡ true)
+    line-ends-with-a-word = (this .longer, this .within, this .ends)
+
+    -- its "drawing is at most the limit wide",
+    line-at-most-the-limit : wide (x .first) (x .behind) ≤ limit
+    line-at-most-the-limit = this .at-most-limit
+
+    -- it "takes the most words whose drawing, with the blanks between them, fits": it ends with a word, and up to the end of any further one it would be too wide,
+    line-takes-the-most-words : wide (x .first) (wordBehind text (x .first)) ≤ limit → (endsWord text (x .behind) ≡ true) × ((e : ℕ) → x .behind < e → e ≤ length text → endsWord text e ≡ true → limit < wide (x .first) e)
+    line-takes-the-most-words = this .most-words
+
+    -- "a first word that does not fit is broken after the most characters that fit",
+    line-breaks-a-word : limit < wide (x .first) (wordBehind text (x .first)) → (x .behind < wordBehind text (x .first)) × ((e : ℕ) → x .behind < e → e ≤ wordBehind text (x .first) → limit < wide (x .first) e)
+    line-breaks-a-word = this .broken
+
+    -- and "the drawings of the lines follow one another, each in its own width".
+    drawings-follow : drawn textLines ≡ drawn before ++ (shown (y .hardblank .0) h (lineOfPart (x .first) (x .behind)) ++ drawn behind)
+    drawings-follow = text-lines.follow-one-another y h source cs k limit text narrow before x behind is
+
+  -- "Its rest is the next line's first word": from a byte of a word on, the next line starts there.
+  rest-is-next : (p : ℕ) → p < length text → inWord (getD text p 0) ≡ true → spansFrom wide limit text p ≡ span p (spanEnd wide limit text p) ∷ spansFrom wide limit text (spanEnd wide limit text p)
+  rest-is-next = text-lines.rest-next y h source cs k limit text narrow
+
+  -- The lines stand in the order of the text, and there are no more than bytes,
+  lines-in-order : breaks.InOrder 0 textLines × (length textLines ≤ length text)
+  lines-in-order = (text-lines.in-order y h source cs k limit text narrow, text-lines.at-most y h source cs k limit text narrow)
+
+  -- "blanks at a break and at either end of the text are not drawn": what stands in no line is blank,
+  blanks-in-no-line : breaks.Apart text 0 textLines
+  blanks-in-no-line = text-lines.blanks-apart y h source cs k limit text narrow
+
+  -- and nothing is lost or drawn twice: the lines' parts in order, with the blanks around them, are the text.
+  nothing-lost : text-lines.pieces text 0 textLines ≡ text
+  nothing-lost = text-lines.all-of-text y h source cs k limit text narrow
+
+  -- "A text without words has no lines."
+  no-words-no-lines : ((p : ℕ) → p < length text → isBreak (getD text p 0) ≡ true) → textLines ≡ []
+  no-words-no-lines = text-lines.no-lines y h source cs k limit text narrow
+
+  -- A text that fits is one line, and its drawing is that of the text without the blanks at its ends.
+  fitting-text-is-one-line : 0 < lastBehind text → wide (wordFrom text 0) (lastBehind text) ≤ limit →
+      (textLines ≡ span (wordFrom text 0) (lastBehind text) ∷ []) × (drawn textLines ≡ shown (y .hardblank .0) h (lineOfPart (wordFrom text 0) (lastBehind text)))
+  fitting-text-is-one-line = text-lines.one-line-drawn y h source cs k limit text narrow

@@ -2,13 +2,14 @@
 -- Assumes nothing.
 use mathlib.Core.Path.{_≡_, refl, ap, _∙_}
 use mathlib.Core.Bool.{Bool, true, cond, false≢true}
-use mathlib.Core.List.{List, []}
+use mathlib.Core.List.{List, [], map}
 use Prim.Native.Nat.{ℕ, _-_}
 use native.Mathlib.Omega.{arith}
 use lib.IntN.{pos}
 use lib.ListN.{length, replicate}
 use Rattle.ground.specs.Area.{zeros, padded}
 use Rattle.ground.specs.declared.refusals.Refusal.{Refusal}
+use Rattle.ground.proofs.Tests.{clash}
 use Rattle.subchars.specs.declared.Mode.{Mode}
 use Rattle.subchars.specs.declared.VerticalLayout.{VerticalLayout}
 use Rattle.join.specs.Join.{exactBlock, leftOf, rightOf, besides, rowsOf}
@@ -24,6 +25,9 @@ use Rattle.flc.specs.Lists.{CommandLists, commandLists, listsOf, controlReading
 use Rattle.source.specs.declared.Counts.{Counts}
 use Rattle.drawing.specs.Drawing.{Lined, lined, unlined, drawLined, withCounts, linedAnswer, bytesOf}
 use Rattle.twolines.specs.TwoLines.{TwoLines, linesTold, linesBytes, linesOutput}
+use Rattle.wrapping.specs.declared.WrapAnswer.the-variants as wrap
+use Rattle.wrapping.specs.Breaking.{Span}
+use Rattle.wrapping.specs.Wrapping.{Wrap, wrapped, unwrapped, wrapIn, wrapAnswer, wrapSpans, wrapBytes, wrapFirsts, wrapEnds, wrapOutput}
 use Rattle.wattleslate.specs.DrawCall.{drawTells, drawTold, drawOutput}
 
 -- a number less 0
@@ -67,3 +71,12 @@ draw-wiped size s control text room e = ap (λ (b : List ℕ). padded b room) (n
 pub lines-wiped : (t : TwoLines) (room : ℕ) → linesTold t room .refused ≡ true → linesOutput t room ≡ zeros room
 unfolding linesOutput
 lines-wiped t room e = ap (λ (b : Bool). padded (cond b [] (linesBytes t)) room) e ∙ ap zeros (less-none room)
+
+pub wrap-wiped : (w : Wrap) (firstRoom endRoom room : ℕ) (r : Refusal) → wrapAnswer (wrapIn room w) ≡ wrap.Refused r →
+    (wrapFirsts w room firstRoom ≡ zeros firstRoom) × (wrapEnds w room endRoom ≡ zeros endRoom) × (wrapOutput w room ≡ zeros room)
+wrap-wiped w firstRoom endRoom room r e = go (wrapIn room w) e
+  where
+    go : (v : Wrap) → wrapAnswer v ≡ wrap.Refused r →
+        (padded (map (λ (x : Span). x .first) (wrapSpans v)) firstRoom ≡ zeros firstRoom) × (padded (map (λ (x : Span). x .behind) (wrapSpans v)) endRoom ≡ zeros endRoom) × (padded (wrapBytes v) room ≡ zeros room)
+    go (unwrapped q) e = (ap zeros (less-none firstRoom), ap zeros (less-none endRoom), ap zeros (less-none room))
+    go (wrapped spans bytes counts) e = clash (cc)

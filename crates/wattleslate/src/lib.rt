@@ -28,6 +28,7 @@ pub use subchars::SubCharacter;
 pub use subchars::VerticalLayout;
 pub use subchars::VerticalSmushing;
 pub use twolines::LinesAnswer;
+pub use wrapping::WrapAnswer;
 ghost use mathlib.Core.Path.{_≡_};
 ghost use mathlib.Core.List.{List};
 ghost use lib.ListN.{length};
@@ -35,6 +36,7 @@ ghost use Rattle.ground.specs.Area.{zeros};
 ghost use Rattle.join.specs.JoinCall.{JoinGives};
 ghost use Rattle.stack.specs.StackCall.{StackGives};
 ghost use Rattle.twolines.specs.TwoLines.{drawLines, LinesOut};
+ghost use Rattle.wrapping.specs.Wrapping.{drawWrapped, WrapOut};
 ghost use Rattle.chars.specs.declared.Entry.{Entry};
 ghost use Rattle.reader.specs.declared.Use.the-variants.{Used};
 ghost use Rattle.reader.specs.Reader.{used, lookedUp};
@@ -231,4 +233,25 @@ pub fn draw_stacked(
     ensures scratch { λ r. ⌜ now (scratch .exit) ≡ zeros (length (now (scratch .entry))) ⌝ }
 {
     twolines::draw_stacked(font, control, upper, lower, scratch, out)
+}
+
+// Draws a text by a font and a control file in lines at most `limit` columns wide, 1 to 1,000, each with the most words that fit; a first word that does not fit
+// is broken. `firsts` and `ends` then list each line's first byte and the place behind its last, and `out` holds the lines' drawings one after another, each
+// row with an LF; zeros behind. The answer gives how many lines, and the counts of the whole text. Both lists have 1,024 entries or more, and `scratch` has 32,000
+// bytes or more and is all zeros afterwards. Refusals: 9 for the lists and the scratch, the font's (1 to 8), the control file's (10 to 14), 15, 17 for the limit, 19 at the first
+// character other than a blank that is wider than the limit, then 9 for `out`; they leave the lists and `out` all zeros.
+pub fn draw_wrapped(
+    font: &[u8],
+    control: &[u8],
+    text: &[u8],
+    limit: usize,
+    scratch: &mut [u8],
+    firsts: &mut [usize],
+    ends: &mut [usize],
+    out: &mut [u8],
+) -> WrapAnswer
+    ensures lines { λ r. ⌜ WrapOut (drawWrapped (length (now (firsts .entry))) (length (now (ends .entry))) (length (now (scratch .entry))) (now (font .entry)) (now (control .entry)) limit (now (text .entry))) (length (now (firsts .entry))) (length (now (ends .entry))) (length (now (out .entry))) r (now (firsts .exit)) (now (ends .exit)) (now (out .exit)) ⌝ }
+    ensures scratch { λ r. ⌜ now (scratch .exit) ≡ zeros (length (now (scratch .entry))) ⌝ }
+{
+    wrapping::draw_wrapped(font, control, text, limit, scratch, firsts, ends, out)
 }

@@ -1,5 +1,5 @@
 //! The calls of the static library, in safe functions. They ask nothing of their input, so nothing is tested here.
-use crate::plain::{join, stack};
+use crate::plain::{join, stack, wrap};
 
 extern "C" {
     fn wattleslate_check_font(font: *const u8, font_len: usize) -> u64;
@@ -13,6 +13,23 @@ extern "C" {
         text_len: usize,
         scratch: *mut u8,
         scratch_len: usize,
+        out: *mut u8,
+        out_len: usize,
+    ) -> u64;
+    fn wattleslate_draw_wrapped(
+        font: *const u8,
+        font_len: usize,
+        control: *const u8,
+        control_len: usize,
+        text: *const u8,
+        text_len: usize,
+        limit: usize,
+        scratch: *mut u8,
+        scratch_len: usize,
+        firsts: *mut usize,
+        firsts_len: usize,
+        ends: *mut usize,
+        ends_len: usize,
         out: *mut u8,
         out_len: usize,
     ) -> u64;
@@ -103,6 +120,29 @@ pub fn draw(font: &[u8], control: &[u8], text: &[u8], scratch: &mut [u8], out: &
             scratch.len(),
             out.as_mut_ptr(),
             out.len(),
+        )
+    }
+}
+
+pub fn draw_wrapped(r: &wrap::Request, areas: &mut wrap::Areas) -> u64 {
+    // SAFETY: as above.
+    unsafe {
+        wattleslate_draw_wrapped(
+            r.font.as_ptr(),
+            r.font.len(),
+            r.control.as_ptr(),
+            r.control.len(),
+            r.text.as_ptr(),
+            r.text.len(),
+            r.limit,
+            areas.scratch.as_mut_ptr(),
+            areas.scratch.len(),
+            areas.firsts.as_mut_ptr(),
+            areas.firsts.len(),
+            areas.ends.as_mut_ptr(),
+            areas.ends.len(),
+            areas.out.as_mut_ptr(),
+            areas.out.len(),
         )
     }
 }

@@ -166,6 +166,11 @@ impl Check {
     pub fn bytes(&mut self, what: &str, a: &[u8], b: &[u8], result: &str, room: usize) {
         let mut must = result.as_bytes().to_vec();
         must.resize(room, 0);
+        self.area(what, a, b, &must);
+    }
+
+    /// An area or a list, from its first entry to its last.
+    pub fn area<T: PartialEq + std::fmt::Debug>(&mut self, what: &str, a: &[T], b: &[T], must: &[T]) {
         if a != must || b != must {
             self.wrong += 1;
             println!("{what}: proved {a:?}, plain {b:?}, must be {must:?}");
@@ -253,5 +258,6 @@ pub fn run() -> (u64, u64) {
     check.stacks();
     check.replaced();
     check.rows();
+    check.wrapped();
     (check.made, check.wrong)
 }

@@ -15,10 +15,10 @@ const ENDS: &[&[u8]] = &[b"\n", b"\n", b"\r\n", b"\r"];
 
 /// A hardblank that is nearly always legal.
 fn hardblank(r: &mut Random) -> u8 {
-    if r.one_in(20) {
-        r.byte()
-    } else {
-        r.pick(HARDBLANKS)
+    match r.below(40) {
+        0 => r.pick(b" \r\n\0"),
+        1 => r.byte(),
+        _ => r.pick(HARDBLANKS),
     }
 }
 

@@ -11,3 +11,6 @@ pub mod row_cases;
 pub mod rows;
 pub mod stack_cases;
 pub mod stacks;
+pub mod wrap_cases;
+pub mod wrapped;
+pub mod wraps;

@@ -26,10 +26,12 @@ same-length c = search needs
 returns : tie.Need-returns
 returns c =
     let a = c .before .before .before .before .before .before .before .before .before .before .before .args in
-    λ x z. reached _ _ _ _ (a .mode) _ (a .n) (a .area .now) _ _ _ (c .before .before .attach .ensures .1) _ (c .before .before .before .before .before .chosen .given .1) x z
+    (λ x z. reached _ _ _ _ (a .mode) _ (a .n) (a .area .now) _ _ _ (c .before .before .attach .ensures .1 .0) _ (c .before .before .before .before .before .chosen .given .1) x z, c .before .before .attach .ensures .1 .1)
 
 returns-2 : tie.Need-returns-2
-returns-2 c = λ x z. unmoved _ _ _ _ _ _ (c .before .before .before .before .before .before .args .n) _ (c .before .before .before .before .before .before .pre .1 .0 .0) (c .enum-told .given .1) x z
+returns-2 c =
+    let k = c .before .before .before .before .before .before .pre .1 .0 .0 in
+    (λ x z. unmoved _ _ _ _ _ _ (c .before .before .before .before .before .before .args .n) _ k (c .enum-told .given .1) x z, λ l. absurd (omega arith))
 
 pub draw-chosen-spec : {M : Type 1} → statement M
 draw-chosen-spec = tie.close (tie.spec enum-known-chosen attach-requires enum-told same-length returns returns-2)

@@ -1,14 +1,12 @@
 -- `drawing::join_text` meets its contract. The invariant: the line in the area and what is counted, with what is left of the text, are those of the text.
 -- Assumes nothing.
 use mathlib.Core.List.{List}
-use mathlib.Core.Path.{_≡_, refl, ap, _∙_}
+use mathlib.Core.Path.{_≡_, refl}
 use Prim.Native.Nat.{ℕ, _-_, _≤_}
 use native.Mathlib.Omega.{arith}
 use lib.ListN.{length}
 use borrow.Author.Needs.{needs}
 use Rattle.ground.specs.Limits.{maxHeight}
-use Rattle.flc.specs.Mapping.{mapStages}
-use Rattle.flc.proofs.HeldLaws.{usable, mapped}
 use Rattle.flc.specs.Passing.{ControlHeld}
 use Rattle.source.specs.Source.{Source}
 use Rattle.source.specs.Held.{Gives}
@@ -36,20 +34,14 @@ loop-holds c =
     let a = c .before .before .before .before .before .before .before .before .args in
     (omega arith, refl, refl, λ source g control held. (toward-first (a .mode) (a .height) source (held .commands) (held .count) (a .text .now) (a .area .now), counted-first source (held .commands) (held .count) (a .text .now)))
 
-shared-slice-read-code-of : tie.Need-shared-slice-read-code-of Inv-loop μ-loop
-shared-slice-read-code-of c = c .before .loop-test .taken
+shared-slice-read-choose-byte : tie.Need-shared-slice-read-choose-byte Inv-loop μ-loop
+shared-slice-read-choose-byte c = c .before .loop-test .taken
 
-code-of-requires : tie.Need-code-of-requires Inv-loop μ-loop
-code-of-requires c κs = search needs
+slice-aggregate-choose-byte : tie.Need-slice-aggregate-choose-byte Inv-loop μ-loop
+slice-aggregate-choose-byte c = search needs
 
-map-by-requires : tie.Need-map-by-requires Inv-loop μ-loop
-map-by-requires c κs = usable _ _ _ _ _ _ (c .before .before .before .before .before .before .before .before .before .before .before .before .pre .1 .0 .1)
-
-slice-aggregate-choose : tie.Need-slice-aggregate-choose Inv-loop μ-loop
-slice-aggregate-choose c = search needs
-
-choose-requires : tie.Need-choose-requires Inv-loop μ-loop
-choose-requires c κs = (c .before .before .before .before .before .before .before .before .before .before .before .before .before .before .pre .0, omega (arith, c .before .before .before .before .before .loop .inv .2))
+choose-byte-requires : tie.Need-choose-byte-requires Inv-loop μ-loop
+choose-byte-requires c κs = (c .before .before .before .before .before .before .before .before .before .before .before .before .pre .0, (c .before .before .before .before .before .before .before .before .before .before .before .before .pre .1 .0, omega (arith, c .before .before .before .loop .inv .2)))
 
 slice-aggregate-draw-chosen : tie.Need-slice-aggregate-draw-chosen Inv-loop μ-loop
 slice-aggregate-draw-chosen c = search needs
@@ -59,52 +51,50 @@ slice-aggregate-draw-chosen-2 c = search needs
 
 draw-chosen-requires : tie.Need-draw-chosen-requires Inv-loop μ-loop
 draw-chosen-requires c κs =
-    let p = c .before .before .before .before .before .before .before .before .before .before .before .before .before .before .before .before .before .before .before .pre in
-    let l = c .before .before .before .before .before .before .before .before .before .before .loop in
-    ((_, c .before .before .before .before .choose .ensures (p .0 .0) (p .0 .1)), ((l .inv .0, p .1 .1 .0, given-high _ _ _ _ _ _ _ _ (p .0 .1) .1, omega (arith, p .1 .1 .1, l .inv .1)), c .before .before .before .before .before .before .before .before .before .before .before .row-starts .ensures))
+    let p = c .before .before .before .before .before .before .before .before .before .before .before .before .before .before .before .before .before .pre in
+    let l = c .before .before .before .before .before .before .before .before .loop in
+    ((_, c .before .before .before .before .choose-byte .ensures (p .0 .0) (p .0 .1) (p .1 .0 .0) (p .1 .0 .1)), ((l .inv .0, p .1 .1 .0, given-high _ _ _ _ _ _ _ _ (p .0 .1) .1, omega (arith, p .1 .1 .1, l .inv .1)), c .before .before .before .before .before .before .before .before .before .row-starts .ensures))
 
 count-missing-requires : tie.Need-count-missing-requires Inv-loop μ-loop
 count-missing-requires c κs =
-    let p = c .before .before .before .before .before .before .before .before .before .before .before .before .before .before .before .before .before .before .before .before .before .before .pre in
+    let p = c .before .before .before .before .before .before .before .before .before .before .before .before .before .before .before .before .before .before .before .before .pre in
     let held = p .1 .0 .1 in
-    omega (arith, counted-few _ _ _ _ _ _ (c .before .before .before .before .before .before .before .before .before .before .before .before .before .loop .inv .3 (p .0 .0) (p .0 .1) (p .1 .0 .0) held .1), as-many (held .commands) (held .count) (c .before .before .before .before .before .before .before .before .before .before .before .before .before .before .before .before .before .before .before .before .before .before .args .text .now), c .before .before .before .before .before .before .before .before .before .before .before .before .before .before .before .before .before .before .before .before .before .before .good .1 .0)
+    omega (arith, counted-few _ _ _ _ _ _ (c .before .before .before .before .before .before .before .before .before .before .before .loop .inv .3 (p .0 .0) (p .0 .1) (p .1 .0 .0) held .1), as-many (held .commands) (held .count) (c .before .before .before .before .before .before .before .before .before .before .before .before .before .before .before .before .before .before .before .before .args .text .now), c .before .before .before .before .before .before .before .before .before .before .before .before .before .before .before .before .before .before .before .before .good .1 .0)
 
 same-length : tie.Need-same-length Inv-loop μ-loop
-same-length c = omega (arith, c .before .before .before .before .draw-chosen .kept, c .before .before .before .before .before .before .before .before .before .before .before .before .before .before .before .loop .inv .1)
+same-length c = omega (arith, c .before .before .before .before .draw-chosen .kept, c .before .before .before .before .before .before .before .before .before .before .before .before .before .loop .inv .1)
 
 returns : tie.Need-returns Inv-loop μ-loop
 returns c =
-    let a = c .before .before .before .before .before .before .before .before .before .before .before .before .before .before .before .before .before .before .before .before .before .before .before .before .args in
-    let l = c .before .before .before .before .before .before .before .before .before .before .before .before .before .before .before .loop in
+    let a = c .before .before .before .before .before .before .before .before .before .before .before .before .before .before .before .before .before .before .before .before .before .before .args in
+    let l = c .before .before .before .before .before .before .before .before .before .before .before .before .before .loop in
     λ source g control held.
-    let is = mapped control (a .commands) (a .stages .now) (a .firsts .now) (a .lasts .now) (a .news .now) held _ _ (c .before .before .before .before .before .before .before .before .before .before .before .map-by .ensures) ∙ ap (mapStages (held .commands) 0 (held .count)) (c .before .before .before .before .before .before .before .before .before .before .before .before .code-of .ensures) in
-    let z = c .before .before .before .before .before .before .before .before .before .choose .ensures source g in
+    let z = c .before .before .before .before .before .before .before .before .before .choose-byte .ensures source g control held in
     let so = l .inv .3 source g control held in
     record {
-      line = toward-beyond (a .mode) (a .height) source (held .commands) (held .count) (a .text .now) (a .limit) (l .area) (l .n) (l .i) (so .0) (c .before .before .before .before .before .before .before .before .before .before .before .before .before .before .loop-test .taken) _ is (c .before .before .before .before .draw-chosen .last .0) _ (c .before .before .before .before .draw-chosen .ensures _ z) (c .if1 .taken);
-      few = counted-few source (held .commands) (held .count) (a .text .now) _ _ (counted-next source (held .commands) (held .count) (a .text .now) (l .missing) (l .i) (so .1) (c .before .before .before .before .before .before .before .before .before .before .before .before .before .before .loop-test .taken) _ is _ (c .before .count-missing .ensures _ _ _ _ z));
+      line = toward-beyond (a .mode) (a .height) source (held .commands) (held .count) (a .text .now) (a .limit) (l .area) (l .n) (l .i) (so .0) (c .before .before .before .before .before .before .before .before .before .before .before .before .loop-test .taken) (c .before .before .before .before .draw-chosen .last .0) _ (c .before .before .before .before .draw-chosen .ensures .0 _ z) (c .if1 .taken);
+      few = counted-few source (held .commands) (held .count) (a .text .now) _ _ (counted-next source (held .commands) (held .count) (a .text .now) (l .missing) (l .i) (so .1) (c .before .before .before .before .before .before .before .before .before .before .before .before .loop-test .taken) _ (c .before .count-missing .ensures _ _ _ _ z));
       all = λ w. absurd (omega (arith, c .if1 .taken));
     }
 
 add-i : tie.Need-add-i Inv-loop μ-loop
-add-i c = omega (arith, c .before .before .before .before .before .before .before .before .before .before .before .before .before .before .loop-test .taken, c .before .before .before .before .before .before .before .before .before .before .before .before .before .before .before .before .before .before .before .before .before .before .before .before .good .1 .0)
+add-i c = omega (arith, c .before .before .before .before .before .before .before .before .before .before .before .before .loop-test .taken, c .before .before .before .before .before .before .before .before .before .before .before .before .before .before .before .before .before .before .before .before .before .before .good .1 .0)
 
 loop-less : tie.Need-loop-less Inv-loop μ-loop
-loop-less c = omega (arith, c .before .before .before .before .before .before .before .before .before .before .before .before .before .before .loop-test .taken)
+loop-less c = omega (arith, c .before .before .before .before .before .before .before .before .before .before .before .before .loop-test .taken)
 
 loop-again : tie.Need-loop-again Inv-loop μ-loop
 loop-again c =
-    let a = c .before .before .before .before .before .before .before .before .before .before .before .before .before .before .before .before .before .before .before .before .before .before .before .before .args in
-    let l = c .before .before .before .before .before .before .before .before .before .before .before .before .before .before .before .loop in (
+    let a = c .before .before .before .before .before .before .before .before .before .before .before .before .before .before .before .before .before .before .before .before .before .before .args in
+    let l = c .before .before .before .before .before .before .before .before .before .before .before .before .before .loop in (
       c .if1 .left,
       omega (arith, c .before .before .before .before .draw-chosen .kept, l .inv .1),
-      omega (arith, c .before .before .before .before .before .before .before .before .before .choose .kept, l .inv .2),
+      omega (arith, c .before .before .before .before .before .before .before .before .before .choose-byte .kept, l .inv .2),
       λ source g control held.
-          let is = mapped control (a .commands) (a .stages .now) (a .firsts .now) (a .lasts .now) (a .news .now) held _ _ (c .before .before .before .before .before .before .before .before .before .before .before .map-by .ensures) ∙ ap (mapStages (held .commands) 0 (held .count)) (c .before .before .before .before .before .before .before .before .before .before .before .before .code-of .ensures) in
-          let z = c .before .before .before .before .before .before .before .before .before .choose .ensures source g in
+          let z = c .before .before .before .before .before .before .before .before .before .choose-byte .ensures source g control held in
           let so = l .inv .3 source g control held in (
-            toward-next (a .mode) (a .height) source (held .commands) (held .count) (a .text .now) (a .limit) (l .area) (l .n) (l .i) (so .0) (c .before .before .before .before .before .before .before .before .before .before .before .before .before .before .loop-test .taken) _ is (c .before .before .before .before .draw-chosen .last .0) _ (c .before .before .before .before .draw-chosen .ensures _ z) (c .if1 .left),
-            counted-next source (held .commands) (held .count) (a .text .now) (l .missing) (l .i) (so .1) (c .before .before .before .before .before .before .before .before .before .before .before .before .before .before .loop-test .taken) _ is _ (c .before .count-missing .ensures _ _ _ _ z),
+            toward-next (a .mode) (a .height) source (held .commands) (held .count) (a .text .now) (a .limit) (l .area) (l .n) (l .i) (so .0) (c .before .before .before .before .before .before .before .before .before .before .before .before .loop-test .taken) (c .before .before .before .before .draw-chosen .last .0) _ (c .before .before .before .before .draw-chosen .ensures .0 _ z) (c .if1 .left),
+            counted-next source (held .commands) (held .count) (a .text .now) (l .missing) (l .i) (so .1) (c .before .before .before .before .before .before .before .before .before .before .before .before .loop-test .taken) _ (c .before .count-missing .ensures _ _ _ _ z),
           ),
     )
 
@@ -131,11 +121,9 @@ join-text-spec =
     μ-loop
     row-starts-requires
     loop-holds
-    shared-slice-read-code-of
-    code-of-requires
-    map-by-requires
-    slice-aggregate-choose
-    choose-requires
+    shared-slice-read-choose-byte
+    slice-aggregate-choose-byte
+    choose-byte-requires
     slice-aggregate-draw-chosen
     slice-aggregate-draw-chosen-2
     draw-chosen-requires

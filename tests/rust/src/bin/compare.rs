@@ -3,29 +3,32 @@
 use std::process::exit;
 use std::time::Instant;
 use wattleslate_tests::met::{self, Drawing, Met};
+use wattleslate_tests::plain::wrap::{self, Areas, Request};
 use wattleslate_tests::random::Random;
-use wattleslate_tests::{calls, cases, inputs, plain, replaced, rows, stacks};
+use wattleslate_tests::wrapped::{self, Asked};
+use wattleslate_tests::{calls, cases, inputs, plain, replaced, rows, stacks, wraps};
 
 /// How often a call was made and how often each refusal came; 0 is success.
 struct Count {
     name: &'static str,
     /// The refusals that it can give.
     refusals: &'static [u64],
-    answers: [u64; 19],
+    answers: [u64; 20],
 }
 
-const CALLS: [(&str, &[u64]); 6] = [
+const CALLS: [(&str, &[u64]); 7] = [
     ("join", &[9, 16, 17]),
     ("check_font", &[1, 2, 3, 4, 5, 6, 7, 8]),
     ("check_control", &[10, 11, 12, 13, 14]),
     ("draw", &[1, 2, 3, 4, 5, 6, 7, 8, 9, 10, 11, 12, 13, 14, 15, 16]),
     ("stack", &[9, 17, 18]),
     ("draw_stacked", &[1, 2, 3, 4, 5, 6, 7, 8, 9, 10, 11, 12, 13, 14, 15, 16]),
+    ("draw_wrapped", &[1, 2, 3, 4, 5, 6, 7, 8, 9, 10, 11, 12, 13, 14, 15, 17, 19]),
 ];
 
 impl Count {
     fn new((name, refusals): (&'static str, &'static [u64])) -> Count {
-        Count { name, refusals, answers: [0; 19] }
+        Count { name, refusals, answers: [0; 20] }
     }
 
     fn add(&mut self, answer: u64) {
@@ -184,8 +187,41 @@ fn compare_draw_stacked(r: &mut Random, font: &[u8], control: &[u8], [upper, low
     met::draw_stacked(&Drawing { font, control, texts: [upper, lower], scratch: scratch_room, out: out_room }, x, met);
 }
 
-/// What one round compares: ten joins and stacks, a font, three control files, a line and two lines drawn with the font.
-fn round(r: &mut Random, mut font: Vec<u8>, damaged: bool, counts: &mut [Count; 6], cases: &mut [Met; 4]) {
+/// The entries of a list up to the last that is not 0, and how many it has.
+fn listed(list: &[usize]) -> String {
+    let used = list.iter().rposition(|n| *n != 0).map_or(0, |k| k + 1);
+    format!("{:?} of {}", &list[..used], list.len())
+}
+
+fn compare_draw_wrapped(r: &mut Random, font: &[u8], control: &[u8], count: &mut Count, met: &mut Met) {
+    let (control, text) = (wraps::control(r, control), wraps::text(r));
+    let limit = wraps::limit(r, &Request { font, control, text: &text, limit: 1 });
+    let request = Request { font, control, text: &text, limit };
+    let comes_to = request.wrapped();
+    let mut a = wraps::areas(r, &comes_to);
+    let mut b = a.clone();
+    let x = calls::draw_wrapped(&request, &mut a);
+    let y = wrap::draw_wrapped(&request, &mut b);
+    if x != y || a != b {
+        let lists = |areas: &Areas| format!("firsts {}, ends {}", listed(&areas.firsts), listed(&areas.ends));
+        let input = [
+            ("font", shown(font)),
+            ("control", shown(control)),
+            ("text", shown(&text)),
+            ("limit", limit.to_string()),
+            ("scratch room", a.scratch.len().to_string()),
+            ("out room", a.out.len().to_string()),
+            ("proved lists", lists(&a)),
+            ("plain lists", lists(&b)),
+        ];
+        differ("draw_wrapped", &input, (x, &[&a.out, &a.scratch]), (y, &[&b.out, &b.scratch]));
+    }
+    count.add(x);
+    wrapped::draw_wrapped(&Asked { request: &request, comes_to: &comes_to }, x, &a, met);
+}
+
+/// What one round compares: ten joins and stacks, a font, three control files, a line, two lines and a wrapped text drawn with the font.
+fn round(r: &mut Random, mut font: Vec<u8>, damaged: bool, counts: &mut [Count; 7], cases: &mut [Met; 5]) {
     for _ in 0..10 {
         compare_join(r, &mut counts[0]);
         compare_stack(r, &mut counts[4], &mut cases[0]);
@@ -210,6 +246,7 @@ fn round(r: &mut Random, mut font: Vec<u8>, damaged: bool, counts: &mut [Count; 
         }
     }
     compare_draw_stacked(r, &font, control, [&texts[0], &texts[1]], &mut counts[5], &mut cases[1]);
+    compare_draw_wrapped(r, &font, control, &mut counts[6], &mut cases[4]);
 }
 
 fn main() {
@@ -230,6 +267,7 @@ fn main() {
         Met::new("drawings of two lines met", met::DRAWINGS),
         Met::new("bytes that are not in the font met", replaced::CASES),
         Met::new("row lines met", rows::CASES),
+        Met::new("wrapped texts met", wrapped::CASES),
     ];
     for k in 0..times {
         let font = if k % 8 == 0 { console.clone() } else { inputs::font(&mut r) };

@@ -17,24 +17,30 @@ pub fn look_up<'a>(font: &'a Font, control: &Control, byte: u8) -> LookUp<'a> {
 }
 
 /// "How many text bytes are in the second and in the third group": stood in, and nothing.
-fn replaced(font: &Font, control: &Control, text: &[u8]) -> [usize; 2] {
+pub fn replaced(font: &Font, control: &Control, text: &[u8]) -> [usize; 2] {
     let count = |group: fn(&LookUp) -> bool| text.iter().filter(|byte| group(&look_up(font, control, **byte))).count();
     [count(|found| matches!(found, LookUp::StoodIn(_))), count(|found| matches!(found, LookUp::Nothing))]
 }
 
-/// The line, or one wider than 1,000 as soon as there is one: a line never becomes narrower.
-pub fn line(bytes: &[u8], font: &Font, control: &Control, text: &[u8]) -> Block {
+/// How many bytes at the start of a text fit in a line of so many columns, and the line of these and of the byte that does not fit, where there is one: a line
+/// never becomes narrower.
+pub fn line_within(bytes: &[u8], font: &Font, control: &Control, text: &[u8], limit: usize) -> (usize, Block) {
     let mode = Mode { layout: font.header.layout, right_to_left: font.header.right_to_left, hardblank: font.header.hardblank };
     let mut line = Block { width: 0, rows: vec![Vec::new(); font.header.height] };
-    for byte in text {
+    for (at, byte) in text.iter().enumerate() {
         if let Some(character) = look_up(font, control, *byte).character() {
             line = put(mode, &line, &block(bytes, character)).1;
         }
-        if line.width > 1000 {
-            break;
+        if line.width > limit {
+            return (at, line);
         }
     }
-    line
+    (text.len(), line)
+}
+
+/// The line, or one wider than 1,000 as soon as there is one.
+pub fn line(bytes: &[u8], font: &Font, control: &Control, text: &[u8]) -> Block {
+    line_within(bytes, font, control, text, 1000).1
 }
 
 /// The files that were read, and the lines of some texts.
@@ -61,20 +67,24 @@ fn lines(bytes: &[u8], file: &[u8], texts: &[&[u8]], scratch: usize) -> Result<L
     Ok(Lines { font, control, lines })
 }
 
-/// "Each row .., then LF", and 9 for an output that has no room for them.
-fn output(block: &Block, out: &mut [u8]) -> Result<(), Refusal> {
-    let drawn: Vec<u8> = block.rows.iter().flat_map(|row| row.iter().copied().chain([b'\n'])).collect();
+/// "Each row .., then LF."
+pub fn rows(block: &Block) -> impl Iterator<Item = u8> + '_ {
+    block.rows.iter().flat_map(|row| row.iter().copied().chain([b'\n']))
+}
+
+/// What is drawn, and 9 for an output that has no room for it.
+pub fn output(drawn: &[u8], out: &mut [u8]) -> Result<(), Refusal> {
     if out.len() < drawn.len() {
         return refuse(9, 0);
     }
-    out[..drawn.len()].copy_from_slice(&drawn);
+    out[..drawn.len()].copy_from_slice(drawn);
     Ok(())
 }
 
 fn answer(bytes: &[u8], file: &[u8], text: &[u8], scratch: usize, out: &mut [u8]) -> Result<[usize; 3], Refusal> {
     let Lines { font, control, lines } = lines(bytes, file, &[text], scratch)?;
     let width = lines[0].width;
-    output(&stack::made_ready(&lines[0], font.header.hardblank, width), out)?;
+    output(&rows(&stack::made_ready(&lines[0], font.header.hardblank, width)).collect::<Vec<u8>>(), out)?;
     let [stood_in, nothing] = replaced(&font, &control, text);
     Ok([nothing, stood_in, width])
 }
@@ -82,7 +92,7 @@ fn answer(bytes: &[u8], file: &[u8], text: &[u8], scratch: usize, out: &mut [u8]
 fn stacked_answer(bytes: &[u8], file: &[u8], texts: [&[u8]; 2], scratch: usize, out: &mut [u8]) -> Result<[usize; 3], Refusal> {
     let Lines { font, lines, .. } = lines(bytes, file, &texts, scratch)?;
     let (overlap, result) = stack::put(font.header.vertical(), font.header.hardblank, &lines[0], &lines[1]);
-    output(&result, out)?;
+    output(&rows(&result).collect::<Vec<u8>>(), out)?;
     Ok([overlap, result.rows.len(), result.width])
 }
 

@@ -8,6 +8,7 @@ pub mod lines;
 pub mod numbers;
 pub mod pairs;
 pub mod stack;
+pub mod wrap;
 
 /// "A refusal answers its number and place."
 #[derive(Clone, Copy, PartialEq, Eq, Debug)]

@@ -1,0 +1,13 @@
+-- The laws of words, of lines, and of their drawings.
+pub mod Largest
+pub mod WordLaws
+pub mod BreakingLaws
+pub mod MeasureLaws
+pub mod DrawnLaws
+pub mod SearchLaws
+pub mod SpanLaws
+pub mod PuttingLaws
+pub mod OrderLaws
+pub mod TextLines
+pub mod Answers
+pub mod TableLaws

@@ -1,0 +1,771 @@
+// A text drawn in lines that are at most a limit wide.
+pub mod words;
+
+use drawing::Files;
+use ground::limits;
+use ground::refusals;
+use ground::refusals::Refusal;
+use header::Header;
+use index::latest;
+use source::Chosen;
+use source::Counts;
+use subchars::Mode;
+ghost use mathlib.Core.Path.{_≡_};
+ghost use mathlib.Core.Bool.{cond};
+ghost use mathlib.Core.List.{List, _++_};
+ghost use Prim.Native.Nat.{ℕ, _+_, _*_, _<_, _≤_};
+ghost use lib.Dec.{eqb};
+ghost use lib.ListN.{length, take};
+ghost use Rattle.ground.specs.Area.{zeros};
+ghost use Rattle.ground.specs.Limits.{maxText, maxLineWidth, maxHeight, minLines, minScratch};
+ghost use Rattle.join.specs.Join.{Block};
+ghost use Rattle.join.specs.Writing.{Like};
+ghost use Rattle.figure.specs.Line.{shown};
+ghost use Rattle.figure.specs.Scratch.{scratchLine};
+ghost use Rattle.flc.specs.Passing.{ControlHeld};
+ghost use Rattle.source.specs.Source.{Choice};
+ghost use Rattle.source.specs.Held.{FontHeld};
+ghost use Rattle.source.specs.Steps.{ChosenAs};
+ghost use Rattle.source.specs.Counting.{isMissing, howMany, countsOf};
+ghost use Rattle.drawing.specs.Drawing.{textCodes};
+ghost use Rattle.drawing.specs.Held.{FilesHeld};
+ghost use Rattle.wrapping.specs.Breaking.{Span, spansOf};
+ghost use Rattle.wrapping.specs.Wrapping.{lineBy, wideIn, drawings, tooWide, Wrap, wrapLines, wrapText, badLimit, wrapOf, drawWrapped, WrapOut};
+ghost use Rattle.wrapping.specs.Steps.{NoneWider, lastBehind, Opens, DrawsBy, MeasuredAs, SoughtFrom, SpanDrawn, PutAs};
+
+// What drawing a text in lines answers: how many lines, and the counts of the whole text; or a refusal.
+pub enum WrapAnswer {
+    Wrapped { lines: usize, counts: Counts },
+    Refused(Refusal),
+}
+
+// How the lines of a text are drawn: the limit, the mode and the height of the font's characters, and how many characters and commands the lists hold.
+pub struct Drawer {
+    pub limit: usize,
+    pub mode: Mode,
+    pub height: usize,
+    pub count: usize,
+    pub commands: usize,
+}
+
+// A text whose bytes were looked up: where the first stands that is too wide, or the text's length; and how many up to there are not in the font.
+pub struct Measured {
+    pub place: usize,
+    pub missing: usize,
+}
+
+// A line that was sought: where it ends, how far the text was drawn, and how wide that is.
+pub struct Sought {
+    pub end: usize,
+    pub at: usize,
+    pub width: usize,
+}
+
+// A line that was drawn: where it ends, and how wide it is.
+pub struct DrawnSpan {
+    pub end: usize,
+    pub width: usize,
+}
+
+// Lines that were put out: how many, and how many bytes their drawings have; or the output has no room for them.
+pub enum LinesPut {
+    Put { lines: usize, bytes: usize },
+    NoRoom,
+}
+
+// Whether a byte is a single character other than a blank that is wider than the limit.
+fn too_wide(limit: usize, byte: u8, chosen: Chosen) -> bool
+    ensures { λ t. ⌜ ((s starts : List ℕ) (h : ℕ) (x : Choice) → ChosenAs s starts h chosen x → t ≡ tooWide limit byte x) ⌝ }
+{
+    match chosen {
+        Chosen::Character { width, own: _ } => {
+            if byte == b' ' {
+                return false;
+            }
+            limit < width
+        }
+        Chosen::Nothing => false,
+    }
+}
+
+// Looks up each byte of a text and counts what is replaced. It stops at the first that is too wide.
+fn measure(
+    text: &[u8],
+    drawer: Drawer,
+    font: &[u8],
+    codes: &[i32],
+    starts: &[usize],
+    widths: &[usize],
+    places: &[usize],
+    stages: &[usize],
+    firsts: &[i32],
+    lasts: &[i32],
+    news: &[i32],
+) -> Measured
+    requires { ⌜ DrawsBy drawer (now font) (now codes) (now starts) (now widths) (now places) (now stages) (now firsts) (now lasts) (now news) ⌝ }
+    ensures { λ m. ⌜ ((x : DrawsBy drawer (now (font .entry)) (now (codes .entry)) (now (starts .entry)) (now (widths .entry)) (now (places .entry)) (now (stages .entry)) (now (firsts .entry)) (now (lasts .entry)) (now (news .entry))) → MeasuredAs (x .source) (x .held .commands) (x .held .count) (drawer .limit) (now (text .entry)) m) ⌝ }
+{
+    let mut found = [0usize; limits::MAX_HEIGHT];
+    let mut missing: usize = 0;
+    let mut i: usize = 0;
+    while i < text.len() {
+        let chosen = drawing::choose_byte(
+            text[i],
+            font,
+            drawer.height,
+            drawer.count,
+            codes,
+            starts,
+            widths,
+            places,
+            drawer.commands,
+            stages,
+            firsts,
+            lasts,
+            news,
+            &mut found,
+        );
+        if too_wide(drawer.limit, text[i], chosen) {
+            return Measured { place: i, missing };
+        }
+        missing = source::count_missing(missing, chosen);
+        i += 1;
+    }
+    Measured { place: i, missing }
+}
+
+// A line that starts at b, where the text was drawn up to a place: it ends behind the last word that ended by then; where none has, the first is broken there.
+fn line_sought(b: usize, last: usize, at: usize, width: usize) -> Sought
+    ensures { λ d. ⌜ d ≡ record { end = cond (eqb last b) at last; at = at; width = width } ⌝ }
+{
+    let end = if last == b { at } else { last };
+    Sought { end, at, width }
+}
+
+// Draws the text from b on as far as it fits, at most up to its last word's end, and finds where the line ends that starts at b.
+fn seek_end(
+    area: &mut [u8],
+    text: &[u8],
+    b: usize,
+    stop: usize,
+    drawer: Drawer,
+    font: &[u8],
+    codes: &[i32],
+    starts: &[usize],
+    widths: &[usize],
+    places: &[usize],
+    stages: &[usize],
+    firsts: &[i32],
+    lasts: &[i32],
+    news: &[i32],
+) -> Sought
+    requires { ⌜ DrawsBy drawer (now font) (now codes) (now starts) (now widths) (now places) (now stages) (now firsts) (now lasts) (now news) ⌝ }
+    requires { ⌜ (drawer .limit ≤ maxLineWidth) × (minScratch ≤ length (now area)) ⌝ }
+    requires { ⌜ (b < stop) × (stop ≡ lastBehind (now text)) ⌝ }
+    ensures { λ d. ⌜ (b ≤ d .end) × (d .end ≤ d .at) × (d .at ≤ length (now (text .entry))) × (d .width ≤ drawer .limit) ⌝ }
+    ensures { λ d. ⌜ ((x : DrawsBy drawer (now (font .entry)) (now (codes .entry)) (now (starts .entry)) (now (widths .entry)) (now (places .entry)) (now (stages .entry)) (now (firsts .entry)) (now (lasts .entry)) (now (news .entry))) → Opens (wideIn (lineBy (drawer .mode) (drawer .height) (x .source) (x .held .commands) (x .held .count)) (now (text .entry))) (drawer .limit) (now (text .entry)) b → SoughtFrom (drawer .mode) (drawer .height) (lineBy (drawer .mode) (drawer .height) (x .source) (x .held .commands) (x .held .count)) (drawer .limit) (now (text .entry)) b d (now (area .exit))) ⌝ }
+{
+    let limit = drawer.limit;
+    let mode = drawer.mode;
+    let height = drawer.height;
+    let rows = join::row_starts(limits::MAX_LINE_WIDTH, height);
+    let mut found = [0usize; limits::MAX_HEIGHT];
+    let mut n: usize = 0;
+    let mut last = b;
+    let mut i = b;
+    while i < stop {
+        let chosen = drawing::choose_byte(
+            text[i],
+            font,
+            height,
+            drawer.count,
+            codes,
+            starts,
+            widths,
+            places,
+            drawer.commands,
+            stages,
+            firsts,
+            lasts,
+            news,
+            &mut found,
+        );
+        let w = drawing::draw_chosen(area, chosen, &found, &rows, n, limit, mode, height, font);
+        if limit < w {
+            return line_sought(b, last, i, n);
+        }
+        n = w;
+        i += 1;
+        last = words::last_end(text, i, last);
+    }
+    line_sought(b, last, i, n)
+}
+
+// Draws a line again where more of the text than the line was drawn, so that the area holds the line and nothing else.
+fn finish_span(
+    area: &mut [u8],
+    text: &[u8],
+    b: usize,
+    sought: Sought,
+    drawer: Drawer,
+    font: &[u8],
+    codes: &[i32],
+    starts: &[usize],
+    widths: &[usize],
+    places: &[usize],
+    stages: &[usize],
+    firsts: &[i32],
+    lasts: &[i32],
+    news: &[i32],
+) -> DrawnSpan
+    requires { ⌜ DrawsBy drawer (now font) (now codes) (now starts) (now widths) (now places) (now stages) (now firsts) (now lasts) (now news) ⌝ }
+    requires { ⌜ (drawer .limit ≤ maxLineWidth) × (minScratch ≤ length (now area)) ⌝ }
+    requires { ⌜ (b ≤ sought .end) × (sought .end ≤ sought .at) × (sought .at ≤ length (now text)) × (sought .width ≤ drawer .limit) ⌝ }
+    ensures { λ d. ⌜ d .end ≡ sought .end ⌝ }
+    ensures { λ d. ⌜ ((x : DrawsBy drawer (now (font .entry)) (now (codes .entry)) (now (starts .entry)) (now (widths .entry)) (now (places .entry)) (now (stages .entry)) (now (firsts .entry)) (now (lasts .entry)) (now (news .entry))) → Opens (wideIn (lineBy (drawer .mode) (drawer .height) (x .source) (x .held .commands) (x .held .count)) (now (text .entry))) (drawer .limit) (now (text .entry)) b → SoughtFrom (drawer .mode) (drawer .height) (lineBy (drawer .mode) (drawer .height) (x .source) (x .held .commands) (x .held .count)) (drawer .limit) (now (text .entry)) b sought (now (area .entry)) → SpanDrawn (drawer .mode) (drawer .height) (lineBy (drawer .mode) (drawer .height) (x .source) (x .held .commands) (x .held .count)) (drawer .limit) (now (text .entry)) b d (now (area .exit))) ⌝ }
+{
+    let end = sought.end;
+    if end == sought.at {
+        return DrawnSpan {
+            end,
+            width: sought.width,
+        };
+    }
+    let mode = drawer.mode;
+    let drawn = drawing::join_text(
+        area,
+        &text[b..end],
+        drawer.limit,
+        mode,
+        drawer.height,
+        font,
+        drawer.count,
+        codes,
+        starts,
+        widths,
+        places,
+        drawer.commands,
+        stages,
+        firsts,
+        lasts,
+        news,
+    );
+    DrawnSpan {
+        end,
+        width: drawn.width,
+    }
+}
+
+// Draws the line that starts at b into the area.
+fn draw_span(
+    area: &mut [u8],
+    text: &[u8],
+    b: usize,
+    stop: usize,
+    drawer: Drawer,
+    font: &[u8],
+    codes: &[i32],
+    starts: &[usize],
+    widths: &[usize],
+    places: &[usize],
+    stages: &[usize],
+    firsts: &[i32],
+    lasts: &[i32],
+    news: &[i32],
+) -> DrawnSpan
+    requires { ⌜ DrawsBy drawer (now font) (now codes) (now starts) (now widths) (now places) (now stages) (now firsts) (now lasts) (now news) ⌝ }
+    requires { ⌜ (drawer .limit ≤ maxLineWidth) × (minScratch ≤ length (now area)) ⌝ }
+    requires { ⌜ (b < stop) × (stop ≡ lastBehind (now text)) ⌝ }
+    ensures { λ d. ⌜ ((x : DrawsBy drawer (now (font .entry)) (now (codes .entry)) (now (starts .entry)) (now (widths .entry)) (now (places .entry)) (now (stages .entry)) (now (firsts .entry)) (now (lasts .entry)) (now (news .entry))) → Opens (wideIn (lineBy (drawer .mode) (drawer .height) (x .source) (x .held .commands) (x .held .count)) (now (text .entry))) (drawer .limit) (now (text .entry)) b → SpanDrawn (drawer .mode) (drawer .height) (lineBy (drawer .mode) (drawer .height) (x .source) (x .held .commands) (x .held .count)) (drawer .limit) (now (text .entry)) b d (now (area .exit))) ⌝ }
+{
+    let sought = seek_end(
+        area,
+        text,
+        b,
+        stop,
+        drawer,
+        font,
+        codes,
+        starts,
+        widths,
+        places,
+        stages,
+        firsts,
+        lasts,
+        news,
+    );
+    finish_span(
+        area,
+        text,
+        b,
+        sought,
+        drawer,
+        font,
+        codes,
+        starts,
+        widths,
+        places,
+        stages,
+        firsts,
+        lasts,
+        news,
+    )
+}
+
+// Puts out the line w wide that the area holds, from a place of the output on.
+fn put_line(out: &mut [u8], at: usize, area: &[u8], mode: Mode, w: usize, height: usize)
+    requires { ⌜ (height ≤ maxHeight) × (w ≤ maxLineWidth) × (minScratch ≤ length (now area)) × (at + height * (w + 1) ≤ length (now out)) ⌝ }
+    ensures { λ _. ⌜ ((line : Block) → Like height (scratchLine (mode .direction) w (now (area .entry))) line → take (at + height * (w + 1)) (now (out .exit)) ≡ take at (now (out .entry)) ++ shown (mode .hardblank .0) height line) ⌝ }
+{
+    let direction = mode.direction;
+    let hardblank = mode.hardblank;
+    let from = figure::line_start(direction, w);
+    figure::show_rows(&mut out[at..], area, from, w, hardblank, height);
+}
+
+// Draws the lines of a text one after another, lists their places and puts them out, as far as the output has room.
+fn put_lines(
+    line_firsts: &mut [usize],
+    line_ends: &mut [usize],
+    out: &mut [u8],
+    area: &mut [u8],
+    text: &[u8],
+    drawer: Drawer,
+    font: &[u8],
+    codes: &[i32],
+    starts: &[usize],
+    widths: &[usize],
+    places: &[usize],
+    stages: &[usize],
+    firsts: &[i32],
+    lasts: &[i32],
+    news: &[i32],
+) -> LinesPut
+    requires { ⌜ ((x : DrawsBy drawer (now font) (now codes) (now starts) (now widths) (now places) (now stages) (now firsts) (now lasts) (now news)) × NoneWider (wideIn (lineBy (drawer .mode) (drawer .height) (x .source) (x .held .commands) (x .held .count)) (now text)) (drawer .limit) (now text)) ⌝ }
+    requires { ⌜ (drawer .limit ≤ maxLineWidth) × (minScratch ≤ length (now area)) × (length (now text) ≤ maxText) ⌝ }
+    requires { ⌜ (minLines ≤ length (now «line_firsts»)) × (minLines ≤ length (now «line_ends»)) ⌝ }
+    ensures { λ r. ⌜ ((x : DrawsBy drawer (now (font .entry)) (now (codes .entry)) (now (starts .entry)) (now (widths .entry)) (now (places .entry)) (now (stages .entry)) (now (firsts .entry)) (now (lasts .entry)) (now (news .entry))) → NoneWider (wideIn (lineBy (drawer .mode) (drawer .height) (x .source) (x .held .commands) (x .held .count)) (now (text .entry))) (drawer .limit) (now (text .entry)) → PutAs (spansOf (wideIn (lineBy (drawer .mode) (drawer .height) (x .source) (x .held .commands) (x .held .count)) (now (text .entry))) (drawer .limit) (now (text .entry))) (drawings (drawer .mode .hardblank .0) (drawer .height) (lineBy (drawer .mode) (drawer .height) (x .source) (x .held .commands) (x .held .count)) (now (text .entry))) (length (now (out .entry))) r (now («line_firsts» .exit)) (now («line_ends» .exit)) (now (out .exit))) ⌝ }
+{
+    let mode = drawer.mode;
+    let stop = words::last_behind(text);
+    let mut p: usize = 0;
+    let mut lines: usize = 0;
+    let mut bytes: usize = 0;
+    while p < stop {
+        let b = words::word_from(text, p);
+        let line = draw_span(
+            area,
+            text,
+            b,
+            stop,
+            drawer,
+            font,
+            codes,
+            starts,
+            widths,
+            places,
+            stages,
+            firsts,
+            lasts,
+            news,
+        );
+        let need = drawer.height * (line.width + 1);
+        if out.len() - bytes < need {
+            return LinesPut::NoRoom;
+        }
+        put_line(out, bytes, area, mode, line.width, drawer.height);
+        line_firsts[lines] = b;
+        line_ends[lines] = line.end;
+        lines += 1;
+        bytes += need;
+        p = line.end;
+    }
+    LinesPut::Put { lines, bytes }
+}
+
+// A refusal, with zeros all through the lists and the output.
+fn refuse(
+    line_firsts: &mut [usize],
+    line_ends: &mut [usize],
+    out: &mut [u8],
+    number: usize,
+    place: usize,
+) -> WrapAnswer
+    ensures { λ a. ⌜ WrapOut (Wrap.unwrapped (record { number = number; place = place })) (length (now («line_firsts» .entry))) (length (now («line_ends» .entry))) (length (now (out .entry))) a (now («line_firsts» .exit)) (now («line_ends» .exit)) (now (out .exit)) ⌝ }
+{
+    ground::zero_numbers(line_firsts, 0);
+    ground::zero_numbers(line_ends, 0);
+    ground::zero_from(out, 0);
+    WrapAnswer::Refused(Refusal { number, place })
+}
+
+// What the lines that were put come to, with zeros behind them; 9 where the output has no room for them.
+fn finish_lines(
+    line_firsts: &mut [usize],
+    line_ends: &mut [usize],
+    out: &mut [u8],
+    put: LinesPut,
+    counts: Counts,
+) -> WrapAnswer
+    requires { ⌜ ((spans : List Span) × (drawn : List Span → List ℕ) × PutAs spans drawn (length (now out)) put (now «line_firsts») (now «line_ends») (now out)) ⌝ }
+    ensures { λ a. ⌜ ((spans : List Span) (drawn : List Span → List ℕ) → PutAs spans drawn (length (now (out .entry))) put (now («line_firsts» .entry)) (now («line_ends» .entry)) (now (out .entry)) → WrapOut (Wrap.wrapped spans (drawn spans) counts) (length (now («line_firsts» .entry))) (length (now («line_ends» .entry))) (length (now (out .entry))) a (now («line_firsts» .exit)) (now («line_ends» .exit)) (now (out .exit))) ⌝ }
+{
+    match put {
+        LinesPut::Put { lines, bytes } => {
+            ground::zero_numbers(line_firsts, lines);
+            ground::zero_numbers(line_ends, lines);
+            ground::zero_from(out, bytes);
+            WrapAnswer::Wrapped { lines, counts }
+        }
+        LinesPut::NoRoom => refuse(line_firsts, line_ends, out, refusals::AREA_TOO_SMALL, 0),
+    }
+}
+
+// Draws a text in lines, none of whose characters is too wide: 9 for the output. How many of its codes are not in the font is known.
+fn wrap_lines(
+    line_firsts: &mut [usize],
+    line_ends: &mut [usize],
+    out: &mut [u8],
+    area: &mut [u8],
+    text: &[u8],
+    missing: usize,
+    drawer: Drawer,
+    font: &[u8],
+    codes: &[i32],
+    starts: &[usize],
+    widths: &[usize],
+    places: &[usize],
+    stages: &[usize],
+    firsts: &[i32],
+    lasts: &[i32],
+    news: &[i32],
+) -> WrapAnswer
+    requires { ⌜ ((x : DrawsBy drawer (now font) (now codes) (now starts) (now widths) (now places) (now stages) (now firsts) (now lasts) (now news)) × NoneWider (wideIn (lineBy (drawer .mode) (drawer .height) (x .source) (x .held .commands) (x .held .count)) (now text)) (drawer .limit) (now text)) ⌝ }
+    requires { ⌜ (drawer .limit ≤ maxLineWidth) × (minScratch ≤ length (now area)) × (length (now text) ≤ maxText) ⌝ }
+    requires { ⌜ (minLines ≤ length (now «line_firsts»)) × (minLines ≤ length (now «line_ends»)) ⌝ }
+    ensures { λ a. ⌜ ((x : DrawsBy drawer (now (font .entry)) (now (codes .entry)) (now (starts .entry)) (now (widths .entry)) (now (places .entry)) (now (stages .entry)) (now (firsts .entry)) (now (lasts .entry)) (now (news .entry))) → NoneWider (wideIn (lineBy (drawer .mode) (drawer .height) (x .source) (x .held .commands) (x .held .count)) (now (text .entry))) (drawer .limit) (now (text .entry)) → missing ≡ howMany isMissing (x .source) (textCodes (x .held .commands) (x .held .count) (now (text .entry))) → WrapOut (wrapLines (drawer .mode) (drawer .height) (lineBy (drawer .mode) (drawer .height) (x .source) (x .held .commands) (x .held .count)) (drawer .limit) (now (text .entry)) (countsOf (x .source) (textCodes (x .held .commands) (x .held .count) (now (text .entry))))) (length (now («line_firsts» .entry))) (length (now («line_ends» .entry))) (length (now (out .entry))) a (now («line_firsts» .exit)) (now («line_ends» .exit)) (now (out .exit))) ⌝ }
+{
+    let put = put_lines(
+        line_firsts,
+        line_ends,
+        out,
+        area,
+        text,
+        drawer,
+        font,
+        codes,
+        starts,
+        widths,
+        places,
+        stages,
+        firsts,
+        lasts,
+        news,
+    );
+    let counts = source::counts_of(
+        missing,
+        font,
+        drawer.height,
+        drawer.count,
+        codes,
+        starts,
+        widths,
+        places,
+    );
+    finish_lines(line_firsts, line_ends, out, put, counts)
+}
+
+// Draws a text in lines: 19, then 9 for the output.
+fn wrap_text(
+    line_firsts: &mut [usize],
+    line_ends: &mut [usize],
+    out: &mut [u8],
+    area: &mut [u8],
+    text: &[u8],
+    drawer: Drawer,
+    font: &[u8],
+    codes: &[i32],
+    starts: &[usize],
+    widths: &[usize],
+    places: &[usize],
+    stages: &[usize],
+    firsts: &[i32],
+    lasts: &[i32],
+    news: &[i32],
+) -> WrapAnswer
+    requires { ⌜ DrawsBy drawer (now font) (now codes) (now starts) (now widths) (now places) (now stages) (now firsts) (now lasts) (now news) ⌝ }
+    requires { ⌜ (drawer .limit ≤ maxLineWidth) × (minScratch ≤ length (now area)) × (length (now text) ≤ maxText) ⌝ }
+    requires { ⌜ (minLines ≤ length (now «line_firsts»)) × (minLines ≤ length (now «line_ends»)) ⌝ }
+    ensures { λ a. ⌜ ((x : DrawsBy drawer (now (font .entry)) (now (codes .entry)) (now (starts .entry)) (now (widths .entry)) (now (places .entry)) (now (stages .entry)) (now (firsts .entry)) (now (lasts .entry)) (now (news .entry))) → WrapOut (wrapText (drawer .mode) (drawer .height) (x .source) (x .held .commands) (x .held .count) (drawer .limit) (now (text .entry))) (length (now («line_firsts» .entry))) (length (now («line_ends» .entry))) (length (now (out .entry))) a (now («line_firsts» .exit)) (now («line_ends» .exit)) (now (out .exit))) ⌝ }
+{
+    let measured = measure(
+        text,
+        drawer,
+        font,
+        codes,
+        starts,
+        widths,
+        places,
+        stages,
+        firsts,
+        lasts,
+        news,
+    );
+    let place = measured.place;
+    if place < text.len() {
+        let number = refusals::CHARACTER_TOO_WIDE;
+        return refuse(line_firsts, line_ends, out, number, place);
+    }
+    wrap_lines(
+        line_firsts,
+        line_ends,
+        out,
+        area,
+        text,
+        measured.missing,
+        drawer,
+        font,
+        codes,
+        starts,
+        widths,
+        places,
+        stages,
+        firsts,
+        lasts,
+        news,
+    )
+}
+
+// Whether a column limit is outside 1 to 1,000.
+fn bad_limit(limit: usize) -> bool
+    ensures { λ t. ⌜ t ≡ badLimit limit ⌝ }
+{
+    if limit < 1 {
+        return true;
+    }
+    limits::MAX_LINE_WIDTH < limit
+}
+
+// Draws a text in lines by a font and a control file that were read: 15, 17, 19, then 9 for the output.
+fn wrap_read(
+    line_firsts: &mut [usize],
+    line_ends: &mut [usize],
+    out: &mut [u8],
+    area: &mut [u8],
+    text: &[u8],
+    limit: usize,
+    header: Header,
+    count: usize,
+    commands: usize,
+    font: &[u8],
+    codes: &[i32],
+    starts: &[usize],
+    widths: &[usize],
+    places: &[usize],
+    stages: &[usize],
+    firsts: &[i32],
+    lasts: &[i32],
+    news: &[i32],
+) -> WrapAnswer
+    requires { ⌜ FontHeld (now font) header count (now codes) (now starts) (now widths) (now places) ⌝ }
+    requires { ⌜ ((control : List ℕ) × ControlHeld control commands (now stages) (now firsts) (now lasts) (now news)) ⌝ }
+    requires { ⌜ minScratch ≤ length (now area) ⌝ }
+    requires { ⌜ (minLines ≤ length (now «line_firsts»)) × (minLines ≤ length (now «line_ends»)) ⌝ }
+    ensures { λ a. ⌜ ((control : List ℕ) → ControlHeld control commands (now (stages .entry)) (now (firsts .entry)) (now (lasts .entry)) (now (news .entry)) → WrapOut (wrapOf (now (font .entry)) control limit (now (text .entry))) (length (now («line_firsts» .entry))) (length (now («line_ends» .entry))) (length (now (out .entry))) a (now («line_firsts» .exit)) (now («line_ends» .exit)) (now (out .exit))) ⌝ }
+{
+    if limits::MAX_TEXT < text.len() {
+        return refuse(line_firsts, line_ends, out, refusals::TEXT_TOO_LONG, 0);
+    }
+    if bad_limit(limit) {
+        return refuse(line_firsts, line_ends, out, refusals::BAD_SHAPE, 0);
+    }
+    let mode = drawing::mode_of(header);
+    let height = header.height;
+    let drawer = Drawer {
+        limit,
+        mode,
+        height,
+        count,
+        commands,
+    };
+    wrap_text(
+        line_firsts,
+        line_ends,
+        out,
+        area,
+        text,
+        drawer,
+        font,
+        codes,
+        starts,
+        widths,
+        places,
+        stages,
+        firsts,
+        lasts,
+        news,
+    )
+}
+
+// Draws a text in lines by what reading the files gave; the lists hold it.
+fn wrap_files(
+    line_firsts: &mut [usize],
+    line_ends: &mut [usize],
+    out: &mut [u8],
+    area: &mut [u8],
+    text: &[u8],
+    limit: usize,
+    files: Files,
+    font: &[u8],
+    codes: &[i32],
+    starts: &[usize],
+    widths: &[usize],
+    places: &[usize],
+    stages: &[usize],
+    firsts: &[i32],
+    lasts: &[i32],
+    news: &[i32],
+) -> WrapAnswer
+    requires { ⌜ ((control : List ℕ) × FilesHeld (now font) control files (now codes) (now starts) (now widths) (now places) (now stages) (now firsts) (now lasts) (now news)) ⌝ }
+    requires { ⌜ minScratch ≤ length (now area) ⌝ }
+    requires { ⌜ (minLines ≤ length (now «line_firsts»)) × (minLines ≤ length (now «line_ends»)) ⌝ }
+    ensures { λ a. ⌜ ((control : List ℕ) → FilesHeld (now (font .entry)) control files (now (codes .entry)) (now (starts .entry)) (now (widths .entry)) (now (places .entry)) (now (stages .entry)) (now (firsts .entry)) (now (lasts .entry)) (now (news .entry)) → WrapOut (wrapOf (now (font .entry)) control limit (now (text .entry))) (length (now («line_firsts» .entry))) (length (now («line_ends» .entry))) (length (now (out .entry))) a (now («line_firsts» .exit)) (now («line_ends» .exit)) (now (out .exit))) ⌝ }
+{
+    match files {
+        Files::Read {
+            header,
+            count,
+            commands,
+        } => wrap_read(
+            line_firsts,
+            line_ends,
+            out,
+            area,
+            text,
+            limit,
+            header,
+            count,
+            commands,
+            font,
+            codes,
+            starts,
+            widths,
+            places,
+            stages,
+            firsts,
+            lasts,
+            news,
+        ),
+        Files::Refused(r) => refuse(line_firsts, line_ends, out, r.number, r.place),
+    }
+}
+
+// Reads both files and draws a text in lines.
+fn wrap_once(
+    line_firsts: &mut [usize],
+    line_ends: &mut [usize],
+    out: &mut [u8],
+    area: &mut [u8],
+    text: &[u8],
+    limit: usize,
+    font: &[u8],
+    control: &[u8],
+) -> WrapAnswer
+    requires { ⌜ minScratch ≤ length (now area) ⌝ }
+    requires { ⌜ (minLines ≤ length (now «line_firsts»)) × (minLines ≤ length (now «line_ends»)) ⌝ }
+    ensures { λ a. ⌜ WrapOut (wrapOf (now (font .entry)) (now (control .entry)) limit (now (text .entry))) (length (now («line_firsts» .entry))) (length (now («line_ends» .entry))) (length (now (out .entry))) a (now («line_firsts» .exit)) (now («line_ends» .exit)) (now (out .exit)) ⌝ }
+{
+    let mut codes = [0i32; limits::MAX_CHARACTERS];
+    let mut starts = [0usize; limits::MAX_CHARACTERS];
+    let mut widths = [0usize; limits::MAX_CHARACTERS];
+    let mut places = [0usize; latest::SMALL_CODES];
+    let mut stages = [0usize; limits::MAX_COMMANDS];
+    let mut firsts = [0i32; limits::MAX_COMMANDS];
+    let mut lasts = [0i32; limits::MAX_COMMANDS];
+    let mut news = [0i32; limits::MAX_COMMANDS];
+    let files = drawing::read_files(
+        font,
+        control,
+        &mut codes,
+        &mut starts,
+        &mut widths,
+        &mut places,
+        &mut stages,
+        &mut firsts,
+        &mut lasts,
+        &mut news,
+    );
+    wrap_files(
+        line_firsts,
+        line_ends,
+        out,
+        area,
+        text,
+        limit,
+        files,
+        font,
+        &codes,
+        &starts,
+        &widths,
+        &places,
+        &stages,
+        &firsts,
+        &lasts,
+        &news,
+    )
+}
+
+// 9 for lists under 1,024 entries or a scratch under 32,000 bytes; otherwise the drawing, which leaves anything in the scratch.
+fn wrap_tested(
+    line_firsts: &mut [usize],
+    line_ends: &mut [usize],
+    out: &mut [u8],
+    scratch: &mut [u8],
+    text: &[u8],
+    limit: usize,
+    font: &[u8],
+    control: &[u8],
+) -> WrapAnswer
+    ensures { λ a. ⌜ WrapOut (drawWrapped (length (now («line_firsts» .entry))) (length (now («line_ends» .entry))) (length (now (scratch .entry))) (now (font .entry)) (now (control .entry)) limit (now (text .entry))) (length (now («line_firsts» .entry))) (length (now («line_ends» .entry))) (length (now (out .entry))) a (now («line_firsts» .exit)) (now («line_ends» .exit)) (now (out .exit)) ⌝ }
+{
+    if line_firsts.len() < limits::MIN_LINES {
+        return refuse(line_firsts, line_ends, out, refusals::AREA_TOO_SMALL, 0);
+    }
+    if line_ends.len() < limits::MIN_LINES {
+        return refuse(line_firsts, line_ends, out, refusals::AREA_TOO_SMALL, 0);
+    }
+    if scratch.len() < limits::MIN_SCRATCH {
+        return refuse(line_firsts, line_ends, out, refusals::AREA_TOO_SMALL, 0);
+    }
+    wrap_once(
+        line_firsts,
+        line_ends,
+        out,
+        scratch,
+        text,
+        limit,
+        font,
+        control,
+    )
+}
+
+// Draws a text by a font and a control file in lines at most `limit` columns wide: 9 for the lists and the scratch, the font's, the control file's, 15, 17, 19,
+// then 9 for the output. Each line's first byte and the place behind its last are listed, the drawings follow one another, and the scratch is all zeros
+// afterwards.
+pub fn draw_wrapped(
+    font: &[u8],
+    control: &[u8],
+    text: &[u8],
+    limit: usize,
+    scratch: &mut [u8],
+    firsts: &mut [usize],
+    ends: &mut [usize],
+    out: &mut [u8],
+) -> WrapAnswer
+    ensures { λ a. ⌜ WrapOut (drawWrapped (length (now (firsts .entry))) (length (now (ends .entry))) (length (now (scratch .entry))) (now (font .entry)) (now (control .entry)) limit (now (text .entry))) (length (now (firsts .entry))) (length (now (ends .entry))) (length (now (out .entry))) a (now (firsts .exit)) (now (ends .exit)) (now (out .exit)) ⌝ }
+    ensures { λ a. ⌜ now (scratch .exit) ≡ zeros (length (now (scratch .entry))) ⌝ }
+{
+    let answer = wrap_tested(firsts, ends, out, scratch, text, limit, font, control);
+    ground::zero_from(scratch, 0);
+    answer
+}
