@@ -36,6 +36,8 @@ use Rattle.subchars.specs.declared.Rule.{Rule}
 use Rattle.subchars.specs.declared.Joint.the-variants.{ByRule}
 use Rattle.subchars.specs.Layouts.{has, verticalValues, fullVertical}
 use Rattle.subchars.specs.Pair.{blank, blanked, joins, inSet, byRule, controlled, EveryRuleOf, legalHardblank}
+use Rattle.subchars.specs.Steps.{kindOf, ruleEntry, rulesJoining}
+use Rattle.subchars.proofs.PairRules as pair-table
 use Rattle.subchars.proofs.Rules as rules
 use Rattle.subchars.proofs.Joints as joints
 use Rattle.vertical.specs.VerticalPair.{VerticalRule, EqualCharacter, VerticalLine, ruleValue, setHas, twoBars, ruleMerges, merges, mergedByte, barred, otherRules, EveryVerticalRuleOf}
@@ -1301,3 +1303,14 @@ module _ (y : Mode) (h : ℕ) (source : Source) (cs : List Command) (k limit : �
   fitting-text-is-one-line : 0 < lastBehind text → wide (wordFrom text 0) (lastBehind text) ≤ limit →
       (textLines ≡ span (wordFrom text 0) (lastBehind text) ∷ []) × (drawn textLines ≡ shown (y .hardblank .0) h (lineOfPart (wordFrom text 0) (lastBehind text)))
   fitting-text-is-one-line = text-lines.one-line-drawn y h source cs k limit text narrow
+
+-- ================================================================ document 02, Q-5
+
+-- "A constant table of 256 entries: sixteen kinds .. by sixteen, each entry the sum of the rules joining that pair": of any two sub-characters but blanks, whatever the hardblank,
+module _ (hardblank left right : ℕ) (left-seen : left ≡ blank → ⊥) (right-seen : right ≡ blank → ⊥) where
+  table-says-the-rules : (kindOf hardblank right ≡ 14 → left ≡ right) → ruleEntry (kindOf hardblank left) (kindOf hardblank right) ≡ rulesJoining hardblank left right
+  table-says-the-rules = pair-table.pair-entry hardblank left right left-seen right-seen
+
+  -- and "equality of two \"other\" bytes is still tested beside it": unequal ones are joined by no rule.
+  others-that-differ : kindOf hardblank right ≡ 14 → (left ≡ right → ⊥) → 0 ≡ rulesJoining hardblank left right
+  others-that-differ = pair-table.pair-apart hardblank left right left-seen right-seen
