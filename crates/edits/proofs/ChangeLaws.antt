@@ -13,7 +13,7 @@ use Rattle.records.specs.declared.Head.{Head}
 use Rattle.records.specs.Records.{isLive, codeIn, widthIn, rowsIn, isLiveOf, isFreeOf, hasLive, noneTwice}
 use Rattle.records.proofs.ListingLaws.{fine}
 use Rattle.edits.specs.Changes.{joined, newRecord, freed, removed, placed, kept}
-use Rattle.edits.specs.Letters.{Letter, letter, noLetter, letterIn}
+use Rattle.records.specs.Letters.{Letter, letter, noLetter, letterIn}
 use Rattle.edits.proofs.ReadBack.{Whole, Wholes, none, more}
 use Rattle.edits.proofs.RecordLaws.{freed-live, freed-long, whole-freed}
 

@@ -23,7 +23,7 @@ use Rattle.records.specs.Records.{isLive, codeIn, widthIn, rowsIn, sizeIn, isLi
 use Rattle.records.specs.Steps.{placeIn, spotIn}
 use Rattle.records.proofs.ListingLaws.{fine, width-behind, rows-behind}
 use Rattle.edits.specs.Changes.{joined, freed, removed, placed, hasFree, kept}
-use Rattle.edits.specs.Letters.{Letter, letter, noLetter, letterIn}
+use Rattle.records.specs.Letters.{Letter, letter, noLetter, letterIn}
 use Rattle.edits.proofs.ReadBack.{Whole, Wholes, none, more}
 use Rattle.edits.proofs.RecordLaws.{freed-long}
 

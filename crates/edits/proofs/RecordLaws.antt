@@ -18,7 +18,7 @@ use Rattle.records.specs.declared.Head.{Head}
 use Rattle.records.specs.Versions.{widthLength, recordHeadLength, maxWidth}
 use Rattle.rows.specs.Rows.{legalByte}
 use Rattle.records.specs.Records.{isLive, codeIn, widthIn, rowsIn, sizeIn, goodFields, goodRecord, minusOne, isLiveOf, isFreeOf}
-use Rattle.records.proofs.VersionLaws.{width-length-low, width-length-high, max-width-high}
+use Rattle.records.proofs.VersionLaws.{width-length-low, width-length-high, width-fits}
 use Rattle.records.proofs.ListingLaws.{Fine, fine, good}
 use Rattle.edits.specs.Changes.{newRecord, freed}
 use Rattle.edits.proofs.WriteLaws.{length-new}
@@ -101,19 +101,11 @@ module _ (f : Head) where
     unfolding newRecord wide
     behind-code = drop-at (highFirst 4 code) (highFirst (widthLength (f .version)) width ++ rows) 4 (length-high 4 code)
 
-    fits : width ≤ maxWidth (f .version) → width < 256 ^ widthLength (f .version)
-    unfolding widthLength maxWidth
-    fits h = go (eqb (f .version) 3) h
-      where
-        go : (b : Bool) → width ≤ cond b 1023 199 → width < 256 ^ cond b 2 1
-        go true h = omega arith
-        go false h = omega arith
-
     pub new-width : width ≤ maxWidth (f .version) → widthIn f new ≡ width
     unfolding widthIn wide
     new-width h =
         ap (λ (l : List ℕ). numberOf (take (widthLength (f .version)) l)) behind-code ∙
-        ap numberOf (take-at wide rows (widthLength (f .version)) (length-high (widthLength (f .version)) width)) ∙ number-high (widthLength (f .version)) width (fits h)
+        ap numberOf (take-at wide rows (widthLength (f .version)) (length-high (widthLength (f .version)) width)) ∙ number-high (widthLength (f .version)) width (width-fits (f .version) width h)
 
     behind-head : drop (recordHeadLength (f .version)) new ≡ rows
     unfolding wide

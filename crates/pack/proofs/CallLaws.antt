@@ -39,6 +39,7 @@ use Rattle.pack.specs.declared.FindAnswer.the-variants as sought
 use Rattle.pack.specs.declared.EditAnswer.the-variants.{Done, Refused}
 use Rattle.pack.specs.Calls.{checkTold, locatedAt, locatedIn, foundAt, findTold, partOf, rowsTold, Change, changed, refused, after, tells, Changes, removal, goodLetter, hasRoom, insertion, Puttable, compaction}
 use Rattle.heads.proofs.HeadLaws.{Headed}
+use Rattle.heads.proofs.FindLaws.{records-are, place-in}
 use Rattle.heads.proofs.OpenLaws.{Opens, opens-of, Told, told, told-damaged, pack-wholes, pack-bytes, head-size, pack-fits, remade-is}
 
 -- A pack that is damaged.
@@ -67,28 +68,6 @@ module _ (s : List ℕ) (e : Damaged ≡ openedBy (meaning s)) where
 module _ (s : List ℕ) (f : Head) (rs : List (List ℕ)) (m : meaning s ≡ says f rs) where
   o : Opens s f rs
   o = opens-of s f rs m
-
-  pub low : f .height ≤ 32
-  low = o .headed .low
-
-  pub inside : headLength (f .version) ≤ length s
-  inside = o .headed .inside
-
-  pub walkable : (h : ℕ) → h ≡ headLength (f .version) → Walkable f s h
-  walkable h e = subst (Walkable f s) (sym e) (record { low = low; inside = inside; whole = ap (λ (x : Listing). x .whole) (o .read) })
-
-  pub records-are : (h : ℕ) → h ≡ headLength (f .version) → recordsAt f s h ≡ rs
-  records-are h e = ap (recordsAt f s) e ∙ ap (λ (x : Listing). x .records) (o .read)
-
-  -- What a search that starts behind the head finds.
-  pub found : (code h : ℕ) (x : Place) → h ≡ headLength (f .version) → x ≡ placeIn f code h (recordsAt f s h) → x ≡ placeIn f code (headLength (f .version)) rs
-  found code h x e p = p ∙ ap₂ (placeIn f code) e (records-are h e)
-
-  pub spotted : (w h : ℕ) (x : Spot) → h ≡ headLength (f .version) → x ≡ spotIn f w h (recordsAt f s h) → x ≡ spotIn f w (headLength (f .version)) rs
-  spotted w h x e p = p ∙ ap₂ (spotIn f w) e (records-are h e)
-
-  pub place-in : (code p w : ℕ) → At p w ≡ placeIn f code (headLength (f .version)) rs → p + (recordHeadLength (f .version) + f .height * w) ≤ length s
-  place-in code p w e = omega (arith, place-inside f code p w (headLength (f .version)) (pack-wholes s f rs o) (sym e), pack-fits s f rs o)
 
   -- Find.
   pub locate-bad : (code : ℕ) → code ≡ minusOne → located.Refused (refusal badShape 0) ≡ locatedIn (meaning s) code
@@ -222,7 +201,7 @@ module _ (s : List ℕ) (f : Head) (rs : List (List ℕ)) (m : meaning s ≡ say
       rw m (record {
         answer = refl;
         bytes =
-            b ∙ ap₂ (λ (j : ℕ) (x : List (List ℕ)). padded (take j s ++ joined (kept x)) (length s)) e (records-are h e) ∙
+            b ∙ ap₂ (λ (j : ℕ) (x : List (List ℕ)). padded (take j s ++ joined (kept x)) (length s)) e (records-are s f rs m h e) ∙
             sym (ap (λ (g : Head). padded (take (headLength (g .version)) s ++ joined (kept rs)) (length s)) (o .headed .head));
       })
 

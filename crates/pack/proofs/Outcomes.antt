@@ -22,7 +22,7 @@ use Rattle.records.specs.Records.{minusOne, hasLive, liveCount}
 use Rattle.records.specs.Steps.{placeIn, isPlace, spotIn}
 use Rattle.records.proofs.WalkLaws.{place-has}
 use Rattle.edits.specs.Changes.{newRecord, removed, placed, kept}
-use Rattle.edits.specs.Letters.{letter, noLetter}
+use Rattle.records.specs.Letters.{letter, noLetter}
 use Rattle.edits.proofs.WriteLaws.{length-new}
 use Rattle.heads.specs.Pack.{Pack, says, damaged, meaning, remade}
 use Rattle.pack.specs.declared.PackAnswer.the-variants as checked

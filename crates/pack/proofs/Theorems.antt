@@ -16,31 +16,25 @@ use Rattle.records.specs.declared.Head.{Head}
 use Rattle.records.specs.declared.Place.{Place}
 use Rattle.records.specs.declared.Place.the-variants.{At, Nowhere}
 use Rattle.records.specs.Versions.{headLength, recordHeadLength, maxWidth}
+use Rattle.records.proofs.VersionLaws.{head-length-low}
 use Rattle.rows.specs.Rows.{legalByte}
 use Rattle.records.specs.Records.{minusOne, isLive, codeIn, widthIn, rowsIn, isLiveOf, hasLive, noneTwice, Listing, listing}
 use Rattle.records.specs.Steps.{placeIn}
 use Rattle.edits.specs.Changes.{joined, newRecord, removed, placed, hasFree, kept}
-use Rattle.edits.specs.Letters.{Letter, letter, noLetter, letterIn}
+use Rattle.records.specs.Letters.{Letter, letter, noLetter, letterIn}
 use Rattle.edits.proofs.WriteLaws.{length-new}
 use Rattle.edits.proofs.ReadBack.{Wholes, reads-back, listed}
 use Rattle.edits.proofs.RecordLaws.{new-live, new-code, new-width, new-rows, whole-new}
 use Rattle.edits.proofs.ChangeLaws.{wholes-removed, wholes-placed, wholes-kept, once-removed, once-placed, once-kept, has-not, of-live, letter-none, letter-removed, letter-kept, letter-placed, letter-new}
-use Rattle.edits.proofs.PlaceLaws.{readAt, place-letter, removed-long, kept-long, placed-long, kept-none-free}
+use Rattle.edits.proofs.PlaceLaws.{readAt, removed-long, kept-long, placed-long, kept-none-free}
 use Rattle.ground.specs.Refusals.{refusal, badShape}
 use Rattle.pack.specs.declared.Located.{Located}
 use Rattle.pack.specs.declared.Located.the-variants as located
 use Rattle.heads.specs.Pack.{isHead, headOf, headIn, Pack, says, damaged, meaning, remade}
 use Rattle.pack.specs.Calls.{locatedAt, locatedIn, foundAt, findTold, partOf, rowsTold, letterOf, letterFound, goodLetter, hasRoom}
+use Rattle.heads.proofs.FindLaws.{letter-there}
 use Rattle.heads.proofs.HeadLaws.{Headed, headed-of}
 use Rattle.heads.proofs.OpenLaws.{Opens, opens-of, said, pack-wholes, pack-bytes, head-size, pack-fits}
-
-head-seven : (v : ℕ) → 7 ≤ headLength v
-unfolding headLength
-head-seven v = go (eqb v 1)
-  where
-    go : (b : Bool) → 7 ≤ cond b 7 11
-    go true = omega arith
-    go false = omega arith
 
 -- Whole records, no code twice, that fit: with the same head they are a pack that says them.
 module _ (s : List ℕ) (f : Head) (rs : List (List ℕ)) (m : meaning s ≡ says f rs) where
@@ -68,8 +62,8 @@ module _ (s : List ℕ) (f : Head) (rs : List (List ℕ)) (m : meaning s ≡ say
     front : take 7 (remade s qs) ≡ take 7 s
     unfolding h
     front =
-        ap (take 7) remade-bytes ∙ take-append-le 7 (take (headLength (f .version)) s) (joined qs ++ zeros k) (omega (arith, head-size s f rs o, head-seven (f .version))) ∙
-        take-take 7 (headLength (f .version)) s (head-seven (f .version))
+        ap (take 7) remade-bytes ∙ take-append-le 7 (take (headLength (f .version)) s) (joined qs ++ zeros k) (omega (arith, head-size s f rs o, head-length-low (f .version))) ∙
+        take-take 7 (headLength (f .version)) s (head-length-low (f .version))
 
     headed : Headed (remade s qs) f
     headed =
@@ -157,12 +151,9 @@ module _ (s : List ℕ) (f : Head) (rs : List (List ℕ)) (m : meaning s ≡ say
 pub find-letter : (s : List ℕ) (f : Head) (rs : List (List ℕ)) → meaning s ≡ says f rs → (code : ℕ) → (code ≡ minusOne → ⊥) → letterFound s code ≡ letterIn f code rs
 unfolding letterFound findTold rowsTold locatedIn
 find-letter s f rs m code n =
-    let o = opens-of s f rs m in
     let h = headLength (f .version) in
-    let k = length s - h - length (joined rs) in
     ap (λ (p : Pack). told (locatedIn p code)) m ∙ ap (λ (b : Bool). told (cond b (located.Refused (refusal badShape 0)) (locatedAt f (placeIn f code h rs)))) (ne-eqb code minusOne n) ∙
-    same (placeIn f code h rs) ∙ ap (λ (l : List ℕ). readAt f l (placeIn f code h rs)) (pack-bytes s f rs o) ∙
-    place-letter f code (take h s) (zeros k) (pack-wholes s f rs o) h (sym (head-size s f rs o))
+    same (placeIn f code h rs) ∙ letter-there s f rs m code
   where
     told : Located → Letter
     told x = letterOf (partOf s x) (foundAt x)

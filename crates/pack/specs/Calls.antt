@@ -16,7 +16,7 @@ use Rattle.rows.specs.Rows.{legalByte}
 use Rattle.records.specs.Records.{minusOne, hasLive, liveCount}
 use Rattle.records.specs.Steps.{placeIn}
 use Rattle.edits.specs.Changes.{joined, newRecord, removed, placed, hasFree, kept}
-use Rattle.edits.specs.Letters.{Letter, letter, noLetter}
+use Rattle.records.specs.Letters.{Letter, letter, noLetter}
 use Rattle.heads.specs.Pack.{Pack, says, damaged, meaning, remade}
 use Rattle.pack.specs.declared.PackAnswer.{PackAnswer}
 use Rattle.pack.specs.declared.PackAnswer.the-variants as checked

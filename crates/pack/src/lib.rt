@@ -10,6 +10,7 @@ use records::Head;
 use records::MINUS_ONE;
 use records::Place;
 use records::Spot;
+use records::bits_of;
 use records::find_from;
 use records::head_length;
 use records::is_place;
@@ -22,7 +23,7 @@ ghost use mathlib.Core.Path.{_≡_};
 ghost use Prim.Native.Nat.{_≤_};
 ghost use lib.ListN.{length};
 ghost use Rattle.ground.specs.Limits.{maxHeight};
-ghost use Rattle.pack.specs.Codes.{bitsOf};
+ghost use Rattle.records.specs.Codes.{bitsOf};
 ghost use Rattle.heads.specs.Pack.{meaning};
 ghost use Rattle.pack.specs.Calls.{goodLetter, checkTold, locatedIn, findTold, rowsTold, removal, insertion, compaction, Changes, Puttable};
 
@@ -52,18 +53,6 @@ pub enum FindAnswer {
 pub enum EditAnswer {
     Done,
     Refused(Refusal),
-}
-
-// A code as the number that its four bytes say.
-fn bits_of(code: Code) -> usize
-    ensures { λ r. ⌜ r ≡ bitsOf (code .0) ⌝ }
-{
-    let z = code.0;
-    if z < 0 {
-        let wide = (z as i64) + 4294967296;
-        return wide as usize;
-    }
-    z as usize
 }
 
 // Whether a letter may be put.

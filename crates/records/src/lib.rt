@@ -1,7 +1,9 @@
 // The records of a pack: one at the start of a part of the pack, and what is found among them.
 use areas::number_at;
 use ground::both;
+use ground::limits;
 use rows::are_legal;
+use subchars::Code;
 use subchars::SubCharacter;
 ghost use mathlib.Core.Path.{_≡_};
 ghost use mathlib.Core.Bool.{true, cond, _&&_};
@@ -9,6 +11,7 @@ ghost use Prim.Native.Nat.{_+_, _≤_, _<_};
 ghost use lib.ListN.{length, drop};
 ghost use Rattle.ground.specs.Limits.{maxHeight};
 ghost use Rattle.ground.specs.Runs.{all};
+ghost use Rattle.records.specs.Codes.{bitsOf};
 ghost use Rattle.records.specs.Versions.{headLength, widthLength, recordHeadLength, maxWidth};
 ghost use Rattle.records.specs.Records.{isZero, goodFields, listing, hasLive, noneTwice};
 ghost use Rattle.records.specs.Steps.{scanOf, skimOf, Walkable, placeIn, isPlace, spotIn, counted, verdict};
@@ -75,13 +78,13 @@ pub const FREE: u8 = 2;
 pub fn head_length(version: usize) -> usize
     ensures { λ r. ⌜ r ≡ headLength version ⌝ }
 {
-    if version == 1 { 7 } else { 11 }
+    limits::MIN_PACK_LENGTH
 }
 
 pub fn width_length(version: usize) -> usize
     ensures { λ r. ⌜ r ≡ widthLength version ⌝ }
 {
-    if version == 3 { 2 } else { 1 }
+    1
 }
 
 pub fn record_head_length(version: usize) -> usize
@@ -93,7 +96,19 @@ pub fn record_head_length(version: usize) -> usize
 pub fn max_width(version: usize) -> usize
     ensures { λ r. ⌜ r ≡ maxWidth version ⌝ }
 {
-    if version == 3 { 1023 } else { 199 }
+    limits::MAX_CHARACTER_WIDTH
+}
+
+// A code as the number that its four bytes say.
+pub fn bits_of(code: Code) -> usize
+    ensures { λ r. ⌜ r ≡ bitsOf (code .0) ⌝ }
+{
+    let z = code.0;
+    if z < 0 {
+        let wide = (z as i64) + 4294967296;
+        return wide as usize;
+    }
+    z as usize
 }
 
 // Whether all is zero.

@@ -4,7 +4,8 @@ use mathlib.Core.Path.{_≡_, refl, sym, ap, _∙_, subst}
 use native.Mathlib.Omega.{arith}
 use borrow.Author.Needs.{needs}
 use Rattle.heads.proofs.OpenLaws.{told}
-use Rattle.pack.proofs.CallLaws.{walkable, compact-done, compact-damaged}
+use Rattle.heads.proofs.FindLaws.{walkable}
+use Rattle.pack.proofs.CallLaws.{compact-done, compact-damaged}
 use Rattle.pack.proofs.compact.Statement.{statement}
 use Rattle.pack.proofs.compact.Tie as tie
 

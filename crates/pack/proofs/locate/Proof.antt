@@ -9,7 +9,8 @@ use Rattle.heads.proofs.OpenLaws.{told}
 use Rattle.heads.specs.Pack.{meaning}
 use Rattle.pack.specs.declared.Located.the-variants as located
 use Rattle.pack.specs.Calls.{locatedIn}
-use Rattle.pack.proofs.CallLaws.{walkable, found, place-in, locate-bad, locate-place, locate-damaged}
+use Rattle.heads.proofs.FindLaws.{walkable, found, place-in}
+use Rattle.pack.proofs.CallLaws.{locate-bad, locate-place, locate-damaged}
 use Rattle.pack.proofs.locate.Statement.{statement}
 use Rattle.pack.proofs.locate.Tie as tie
 

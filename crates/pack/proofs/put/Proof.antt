@@ -12,8 +12,9 @@ use Rattle.heads.proofs.OpenLaws.{told}
 use Rattle.heads.specs.Pack.{meaning}
 use Rattle.pack.specs.declared.EditAnswer.the-variants.{Refused}
 use Rattle.pack.specs.Calls.{Changes, insertion}
-use Rattle.pack.proofs.CodeLaws.{bits-small}
-use Rattle.pack.proofs.CallLaws.{low, put-bad, put-damaged}
+use Rattle.records.proofs.CodeLaws.{bits-small}
+use Rattle.heads.proofs.FindLaws.{low}
+use Rattle.pack.proofs.CallLaws.{put-bad, put-damaged}
 use Rattle.pack.proofs.put.Statement.{statement}
 use Rattle.pack.proofs.put.Tie as tie
 

@@ -14,7 +14,8 @@ use Rattle.records.proofs.WalkLaws.{place-has}
 use Rattle.heads.specs.Pack.{meaning}
 use Rattle.pack.specs.declared.EditAnswer.the-variants.{Done}
 use Rattle.pack.specs.Calls.{Changes, insertion}
-use Rattle.pack.proofs.CallLaws.{low, walkable, found, spotted, put-present, free-room, put-free, tail-inside, put-full, put-tail, rows-few}
+use Rattle.heads.proofs.FindLaws.{low, walkable, found, spotted}
+use Rattle.pack.proofs.CallLaws.{put-present, free-room, put-free, tail-inside, put-full, put-tail, rows-few}
 use Rattle.pack.proofs.put_letter.Statement.{statement}
 use Rattle.pack.proofs.put_letter.Tie as tie
 

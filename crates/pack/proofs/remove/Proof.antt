@@ -11,7 +11,8 @@ use Rattle.heads.proofs.OpenLaws.{told}
 use Rattle.heads.specs.Pack.{meaning}
 use Rattle.pack.specs.declared.EditAnswer.the-variants.{Done, Refused}
 use Rattle.pack.specs.Calls.{Changes, removal}
-use Rattle.pack.proofs.CallLaws.{walkable, found, place-in, remove-bad, remove-absent, remove-done, remove-damaged}
+use Rattle.heads.proofs.FindLaws.{walkable, found, place-in}
+use Rattle.pack.proofs.CallLaws.{remove-bad, remove-absent, remove-done, remove-damaged}
 use Rattle.pack.proofs.remove.Statement.{statement}
 use Rattle.pack.proofs.remove.Tie as tie
 
