@@ -27,6 +27,9 @@ module _ (s : List ℕ) (f : Head) (rs : List (List ℕ)) (m : meaning s ≡ say
   pub head-is : headIn s ≡ f
   head-is = o .headed .head
 
+  pub short : length s ≤ 65536
+  short = o .headed .long
+
   pub low : f .height ≤ 32
   low = o .headed .low
 

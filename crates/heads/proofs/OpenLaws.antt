@@ -80,6 +80,14 @@ opens-of s f rs e = go (isHead (length s) (take 7 s)) refl e
 pub said : (s : List ℕ) (f : Head) (rs : List (List ℕ)) → Opens s f rs → meaning s ≡ says f rs
 said s f rs o = meaning-headed s f (o .headed) ∙ ap (meant f) (o .read) ∙ rw (o .once)
 
+-- A pack says one list of records.
+pub says-one : (s : List ℕ) (f : Head) (rs qs : List (List ℕ)) → meaning s ≡ says f rs → meaning s ≡ says f qs → rs ≡ qs
+says-one s f rs qs e d = ap recordsOf (sym e ∙ d)
+  where
+    recordsOf : Pack → List (List ℕ)
+    recordsOf (says g xs) = xs
+    recordsOf damaged = rs
+
 -- What the answer of `open` tells.
 pub record Told (s : List ℕ) (f : Head) (n : ℕ) : Type 0 where
   pub records : List (List ℕ)
