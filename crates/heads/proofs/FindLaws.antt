@@ -30,6 +30,9 @@ module _ (s : List ℕ) (f : Head) (rs : List (List ℕ)) (m : meaning s ≡ say
   pub short : length s ≤ 65536
   short = o .headed .long
 
+  pub some : 1 ≤ f .height
+  some = o .headed .some
+
   pub low : f .height ≤ 32
   low = o .headed .low
 

@@ -50,6 +50,7 @@ pub record Headed (s : List ℕ) (f : Head) : Type 0 where
   pub good : isHead (length s) (take 7 s) ≡ true
   pub head : headIn s ≡ f
   pub long : length s ≤ 65536
+  pub some : 1 ≤ f .height
   pub low : f .height ≤ 32
   pub inside : headLength (f .version) ≤ length s
 
@@ -58,6 +59,12 @@ unfolding legalHead
 head-low f e =
     leb-true (f .height) 32
     (and-left (leb (f .height) 32) (legalHardblank (f .hardblank .0)) (and-right (leb 1 (f .height)) (leb (f .height) 32 && legalHardblank (f .hardblank .0)) (and-right (isVersion (f .version)) (leb 1 (f .height) && (leb (f .height) 32 && legalHardblank (f .hardblank .0))) e)))
+
+head-some : (f : Head) → legalHead f ≡ true → 1 ≤ f .height
+unfolding legalHead
+head-some f e =
+    leb-true 1 (f .height)
+    (and-left (leb 1 (f .height)) (leb (f .height) 32 && legalHardblank (f .hardblank .0)) (and-right (isVersion (f .version)) (leb 1 (f .height) && (leb (f .height) 32 && legalHardblank (f .hardblank .0))) e))
 
 pub headed-of : (s : List ℕ) → isHead (length s) (take 7 s) ≡ true → Headed s (headIn s)
 unfolding isHead
@@ -76,6 +83,7 @@ headed-of s e =
       good = e;
       head = refl;
       long = leb-true n 65536 (and-left a (b && (m && (g && z))) e);
+      some = head-some (headOf t) (and-left g z r);
       low = head-low (headOf t) (and-left g z r);
       inside = leb-true (headLength (headOf t .version)) n (and-right g z r);
     }
