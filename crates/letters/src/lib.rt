@@ -82,13 +82,7 @@ pub fn hold_letters(head: Head, pack: &[u8], starts: &mut [usize], widths: &mut 
 }
 
 // Where the record of a code's letter starts, and its width.
-pub fn find_letter(
-    head: Head,
-    pack: &[u8],
-    starts: &[usize],
-    widths: &[usize],
-    code: Code,
-) -> Place
+pub fn find_letter(head: Head, pack: &[u8], starts: &[usize], widths: &[usize], code: Code) -> Place
     requires { ⌜ LettersHeld head (now pack) (now starts) (now widths) ⌝ }
     ensures { λ r. ⌜ ((records : List (List ℕ)) → meaning (now (pack .entry)) ≡ says head records → r ≡ placeIn head (bitsOf (code .0)) (headLength (head .version)) records) ⌝ }
 {

@@ -31,7 +31,7 @@ use Rattle.source.specs.declared.Chosen.{Chosen}
 use Rattle.source.specs.declared.Chosen.the-variants as chosen
 use Rattle.source.specs.Source.{Source, characterOf, choiceOf, fontSource}
 use Rattle.source.specs.Counting.{StandsIn}
-use Rattle.source.specs.Held.{FontHeld, FontGives, Gives}
+use Rattle.source.specs.Held.{FontHeld, FontGives, GivesBy, Gives}
 use Rattle.source.specs.Steps.{Standing, RowPlaces, Shows, ChosenAs}
 use Rattle.source.proofs.CountLaws.{with-code-0, without-code-0}
 
@@ -109,6 +109,13 @@ module _ (source : Source) (s : List ℕ) (height count : ℕ) (codes : List ℤ
   given-leaves-out looked cs = rw (g .is) (without-code-0 s (g .held .characters) (sym (its (code (pos 0)) Nothing looked ∙ used-zero (g .held .characters))) cs)
 
 -- Every source that is given has 1 to 32 rows.
+high-by : (source : Source) (s : List ℕ) (height : ℕ) (origin : Origin) (codes : List ℤ) (starts widths places : List ℕ) → GivesBy source s height origin codes starts widths places → (0 < height) × (height ≤ maxHeight)
+high-by source s height (Font n) codes starts widths places g = font-high source s height n codes starts widths places g
+high-by source s height Pack codes starts widths places g = rw (g .high) (some s (g .head) (g .records) (g .said), low s (g .head) (g .records) (g .said))
+
 pub given-high : (source : Source) (s : List ℕ) (height : ℕ) (origin : Origin) (codes : List ℤ) (starts widths places : List ℕ) → Gives source s height origin codes starts widths places → (0 < height) × (height ≤ maxHeight)
-given-high source s height (Font n) codes starts widths places g = font-high source s height n codes starts widths places g
-given-high source s height Pack codes starts widths places g = rw (g .high) (some s (g .head) (g .records) (g .said), low s (g .head) (g .records) (g .said))
+given-high source s height origin codes starts widths places g = high-by source s height origin codes starts widths places (g .by)
+
+-- A font that was read gives its characters.
+pub font-gives : (s : List ℕ) (h : Header) (n : ℕ) (codes : List ℤ) (starts widths places : List ℕ) (held : FontHeld s h n codes starts widths places) → Gives (fontSource s (held .characters)) s (h .height) (Font n) codes starts widths places
+font-gives s h n codes starts widths places held = record { by = record { header = h; held = held; high = refl; is = refl } }

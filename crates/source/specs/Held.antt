@@ -49,7 +49,11 @@ pub record PackGives (source : Source) (s : List ℕ) (height : ℕ) (starts wid
   pub high : height ≡ head .height
   pub is : source ≡ packSource head records
 
+-- By what the bytes are.
+abbrev pub GivesBy : Source → List ℕ → ℕ → Origin → List ℤ → List ℕ → List ℕ → List ℕ → Type 0
+GivesBy source s height (Font n) codes starts widths places = FontGives source s height n codes starts widths places
+GivesBy source s height Pack codes starts widths places = PackGives source s height starts widths
+
 -- The bytes and the lists give the characters of a source, of the given height.
-abbrev pub Gives : Source → List ℕ → ℕ → Origin → List ℤ → List ℕ → List ℕ → List ℕ → Type 0
-Gives source s height (Font n) codes starts widths places = FontGives source s height n codes starts widths places
-Gives source s height Pack codes starts widths places = PackGives source s height starts widths
+pub record Gives (source : Source) (s : List ℕ) (height : ℕ) (origin : Origin) (codes : List ℤ) (starts widths places : List ℕ) : Type 0 where
+  pub by : GivesBy source s height origin codes starts widths places

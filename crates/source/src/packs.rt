@@ -34,13 +34,7 @@ pub(crate) fn stands_in(pack: &[u8], height: usize, starts: &[usize], widths: &[
 }
 
 // The letter at a place as a character; where its rows start is written into a lent list.
-fn show_letter(
-    head: Head,
-    pack: &[u8],
-    place: Place,
-    own: bool,
-    found: &mut [usize],
-) -> Chosen
+fn show_letter(head: Head, pack: &[u8], place: Place, own: bool, found: &mut [usize]) -> Chosen
     requires { ⌜ PlaceIn head (now pack) place ⌝ }
     requires { ⌜ maxHeight ≤ length (now found) ⌝ }
     ensures { λ r. ⌜ ChosenAs (now (pack .entry)) (now (found .exit)) (head .height) r (letterChoice head (now (pack .entry)) own place) ⌝ }

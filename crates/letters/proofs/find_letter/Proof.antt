@@ -56,7 +56,7 @@ returns-2 c = λ rs m.
     found (a .pack .now) (a .head) rs m (n .result) (h .result) (c .find-from .result) (h .ensures) (c .find-from .ensures) ∙ ap (λ b. placeIn (a .head) b (headLength (a .head .version)) rs) (n .ensures)
 
 pub find-letter-spec : {M : Type 1} → statement M
-find-letter-spec = tie.close (tie.spec 
+find-letter-spec = tie.close (tie.spec
     bits-of-requires
     mul-held-at
     shared-slice-read-held-at

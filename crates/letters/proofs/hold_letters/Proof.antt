@@ -91,7 +91,7 @@ returns c = λ rs m.
     all-held (a .head) (a .pack .now) _ (l .at) (l .starts) (l .widths) (l .inv .0) rs m (c .before .before .before .before .before .head-length .ensures) (skim-end (a .head) (a .pack .now) (l .at) (l .inv .0 .walk) (sym (c .enum-told .given .1) ∙ c .before .before .skim-part .ensures))
 
 pub hold-letters-spec : {M : Type 1} → statement M
-hold-letters-spec = tie.close (tie.spec 
+hold-letters-spec = tie.close (tie.spec
     Inv-loop
     μ-loop
     zero-numbers-requires

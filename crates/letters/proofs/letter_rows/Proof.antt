@@ -58,7 +58,7 @@ returns : tie.Need-returns Inv-loop μ-loop
 returns c = λ r u. c .before .loop .inv .3 r (omega (arith, c .loop-test .left))
 
 pub letter-rows-spec : {M : Type 1} → statement M
-letter-rows-spec = tie.close (tie.spec 
+letter-rows-spec = tie.close (tie.spec
     Inv-loop
     μ-loop
     loop-holds

@@ -47,7 +47,7 @@ returns-4 : tie.Need-returns-4
 returns-4 c = let a = c .before .before .before .before .args in note-again (a .starts .now) (a .widths .now) (a .live) (a .code) (a .at) (a .width) (c .if3 .left)
 
 pub note-spec : {M : Type 1} → statement M
-note-spec = tie.close (tie.spec 
+note-spec = tie.close (tie.spec
     returns
     returns-2
     mul-if3

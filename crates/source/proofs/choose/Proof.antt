@@ -3,7 +3,7 @@
 use mathlib.Core.Path.{sym, subst}
 use borrow.Author.Needs.{needs}
 use Rattle.source.specs.declared.Origin.{Origin}
-use Rattle.source.specs.Held.{Gives}
+use Rattle.source.specs.Held.{GivesBy}
 use Rattle.source.proofs.choose.Statement.{statement}
 use Rattle.source.proofs.choose.Tie as tie
 
@@ -14,7 +14,7 @@ choose-entry-requires : tie.Need-choose-entry-requires
 choose-entry-requires c κs =
     let a = c .before .before .before .before .before .before .before .before .before .args in
     let p = c .before .before .before .before .before .before .before .before .before .pre in
-    ((p .0 .0, subst (λ (o : Origin). Gives (p .0 .0) (a .font .now) (a .height) o (a .codes .now) (a .starts .now) (a .widths .now) (a .places .now)) (c .before .before .origin .given .1) (p .0 .1)), p .1)
+    ((p .0 .0, subst (λ (o : Origin). GivesBy (p .0 .0) (a .font .now) (a .height) o (a .codes .now) (a .starts .now) (a .widths .now) (a .places .now)) (c .before .before .origin .given .1) (p .0 .1 .by)), p .1)
 
 enum-told : tie.Need-enum-told
 enum-told c = search needs
@@ -23,7 +23,7 @@ choose-letter-requires : tie.Need-choose-letter-requires
 choose-letter-requires c κs =
     let a = c .before .before .before .before .before .before .before .before .args in
     let p = c .before .before .before .before .before .before .before .before .pre in
-    ((p .0 .0, subst (λ (o : Origin). Gives (p .0 .0) (a .font .now) (a .height) o (a .codes .now) (a .starts .now) (a .widths .now) (a .places .now)) (c .before .enum-told .given .1) (p .0 .1)), p .1)
+    ((p .0 .0, subst (λ (o : Origin). GivesBy (p .0 .0) (a .font .now) (a .height) o (a .codes .now) (a .starts .now) (a .widths .now) (a .places .now)) (c .before .enum-told .given .1) (p .0 .1 .by)), p .1)
 
 same-length : tie.Need-same-length
 same-length c = search needs
@@ -31,7 +31,7 @@ same-length c = search needs
 returns : tie.Need-returns
 returns c = λ source g.
     let a = c .before .before .before .before .before .before .before .before .before .before .before .before .args in
-    c .before .before .choose-entry .ensures source (subst (λ (o : Origin). Gives source (a .font .now) (a .height) o (a .codes .now) (a .starts .now) (a .widths .now) (a .places .now)) (c .before .before .before .before .before .origin .given .1) g)
+    c .before .before .choose-entry .ensures source (subst (λ (o : Origin). GivesBy source (a .font .now) (a .height) o (a .codes .now) (a .starts .now) (a .widths .now) (a .places .now)) (c .before .before .before .before .before .origin .given .1) (g .by))
 
 same-length-2 : tie.Need-same-length-2
 same-length-2 c = search needs
@@ -39,7 +39,7 @@ same-length-2 c = search needs
 returns-2 : tie.Need-returns-2
 returns-2 c = λ source g.
     let a = c .before .before .before .before .before .before .before .before .before .before .before .args in
-    c .before .before .choose-letter .ensures source (subst (λ (o : Origin). Gives source (a .font .now) (a .height) o (a .codes .now) (a .starts .now) (a .widths .now) (a .places .now)) (c .before .before .before .before .enum-told .given .1) g)
+    c .before .before .choose-letter .ensures source (subst (λ (o : Origin). GivesBy source (a .font .now) (a .height) o (a .codes .now) (a .starts .now) (a .widths .now) (a .places .now)) (c .before .before .before .before .enum-told .given .1) (g .by))
 
 pub choose-spec : {M : Type 1} → statement M
 choose-spec =
