@@ -1,0 +1,2 @@
+-- The laws of drawing from a pack.
+pub mod PackCases
