@@ -1,2 +1,3 @@
 -- The laws of drawing from a pack.
 pub mod PackCases
+pub mod FontAndPack
