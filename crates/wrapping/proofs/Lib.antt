@@ -6,6 +6,7 @@ pub mod MeasureLaws
 pub mod DrawnLaws
 pub mod SearchLaws
 pub mod SpanLaws
+pub mod KeepingLaws
 pub mod PuttingLaws
 pub mod OrderLaws
 pub mod TextLines

@@ -31,6 +31,27 @@ pub fn last_end(text: &[u8], e: usize, last: usize) -> usize
     last
 }
 
+// Whether the next word, with the blanks before it, may be wider than the room behind a word that ends at place e. The characters' widths are added up as if none
+// overlapped: where it is false, the word fits.
+pub fn may_not_fit(text: &[u8], wide: &[usize], e: usize, stop: usize, room: usize) -> bool
+    requires { ⌜ (stop ≤ length (now text)) × (stop ≤ length (now wide)) ⌝ }
+{
+    let mut left = room;
+    let mut i = e;
+    while i < stop {
+        let w = wide[i];
+        if left < w {
+            return true;
+        }
+        left -= w;
+        i += 1;
+        if ends_word(text, i) {
+            return false;
+        }
+    }
+    false
+}
+
 // The first place from p on where a byte of a word stands; the text's end where there is none.
 pub fn word_from(text: &[u8], p: usize) -> usize
     requires { ⌜ p ≤ length (now text) ⌝ }
