@@ -83,8 +83,9 @@ module _ (hardblank h : ℕ) (line : List ℕ → Block) (s : List ℕ) where
           size-next : length (drawn (so .done ++ (span b e ∷ []))) ≡ m + h * (w + 1)
           size-next = ap length drawn-next ∙ length-append (drawn (so .done)) new ∙ omega (arith, so .held .size, new-long)
 
-          pub put-next : n < length firsts → n < length ends → (out′ : List ℕ) → take (m + h * (w + 1)) out′ ≡ take m out ++ new → PutTo e (n + 1) (m + h * (w + 1)) (set firsts n b) (set ends n e) out′
-          put-next k l out′ q =
+          -- on an output whose first m bytes stayed
+          pub put-next : n < length firsts → n < length ends → (kept : List ℕ) → take m kept ≡ take m out → (out′ : List ℕ) → take (m + h * (w + 1)) out′ ≡ take m kept ++ new → PutTo e (n + 1) (m + h * (w + 1)) (set firsts n b) (set ends n e) out′
+          put-next k l kept stays out′ q =
               record {
                 done = so .done ++ (span b e ∷ []);
                 split = split-next;
@@ -93,7 +94,7 @@ module _ (hardblank h : ℕ) (line : List ℕ → Block) (s : List ℕ) where
                   size = sym size-next;
                   firsts-are = map-more (λ (x : Span). x .first) firsts n (so .done) (span b e) k (so .held .firsts-are);
                   ends-are = map-more (λ (x : Span). x .behind) ends n (so .done) (span b e) l (so .held .ends-are);
-                  bytes-are = q ∙ ap (λ (x : List ℕ). x ++ new) (so .held .bytes-are) ∙ sym drawn-next;
+                  bytes-are = q ∙ ap (λ (x : List ℕ). x ++ new) (stays ∙ so .held .bytes-are) ∙ sym drawn-next;
                 };
               }
 
