@@ -179,6 +179,17 @@ fn put_line(out: &mut [u8], at: usize, area: &[u8], mode: Mode, w: usize, height
     figure::show_rows(&mut out[at..], area, from, w, hardblank, height);
 }
 
+// Nothing is kept of a line that starts at b.
+fn nothing_kept(b: usize) -> Kept
+    ensures { λ k. ⌜ k .end ≡ b ⌝ }
+{
+    Kept {
+        end: b,
+        width: 0,
+        columns: 0,
+    }
+}
+
 // Whether a line that is n wide at place e is worth keeping: a word ends there, the next one may not fit, and no more columns were put out for the line than it is
 // wide, so that all that is put out for a line is at most twice the line.
 fn worth_keeping(
@@ -273,11 +284,7 @@ fn seek_end(
     let mut found = [0usize; limits::MAX_HEIGHT];
     let mut n: usize = 0;
     let mut last = b;
-    let mut kept = Kept {
-        end: b,
-        width: 0,
-        columns: 0,
-    };
+    let mut kept = nothing_kept(b);
     let mut i = b;
     while i < stop {
         let chosen = drawing::choose_byte(
@@ -334,18 +341,14 @@ fn finish_span(
     let end = sought.end;
     let kept = sought.kept;
     if end == kept.end {
-        return DrawnSpan {
-            end,
-            width: kept.width,
-            put: true,
-        };
+        let width = kept.width;
+        let put = true;
+        return DrawnSpan { end, width, put };
     }
+    let put = false;
     if end == sought.at {
-        return DrawnSpan {
-            end,
-            width: sought.width,
-            put: false,
-        };
+        let width = sought.width;
+        return DrawnSpan { end, width, put };
     }
     let mode = drawer.mode;
     let drawn = drawing::join_text(
@@ -366,11 +369,8 @@ fn finish_span(
         lasts,
         news,
     );
-    DrawnSpan {
-        end,
-        width: drawn.width,
-        put: false,
-    }
+    let width = drawn.width;
+    DrawnSpan { end, width, put }
 }
 
 // Draws the line that starts at b into the area, or to its place in the output.

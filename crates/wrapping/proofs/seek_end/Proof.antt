@@ -32,27 +32,30 @@ abbrev μ-loop : tie.MeasureT-loop
 row-starts-requires : tie.Need-row-starts-requires Inv-loop μ-loop
 row-starts-requires c κs = (given-high _ _ _ _ _ _ _ _ (c .before .before .before .before .before .before .before .before .before .before .pre .0 .given) .1, omega arith)
 
+nothing-kept-requires : tie.Need-nothing-kept-requires Inv-loop μ-loop
+nothing-kept-requires c κs = search needs
+
 loop-holds : tie.Need-loop-holds Inv-loop μ-loop
 loop-holds c =
-    let a = c .before .before .before .before .before .before .before .before .before .before .before .args in
-    let p = c .before .before .before .before .before .before .before .before .before .before .before .pre .1 .1 in (
+    let a = c .before .before .before .before .before .before .before .before .before .before .before .before .args in
+    let p = c .before .before .before .before .before .before .before .before .before .before .before .before .pre .1 .1 in (
       omega arith,
       refl,
       refl,
       scan-none (a .text .now) (a .b) (omega (arith, p .0, p .1, behind-le (a .text .now))),
       refl,
       refl,
-      λ x. (held-none (a .drawer .mode) (a .drawer .height) (x .source) (x .held .commands) (x .held .count) (a .text .now) (a .b) (a .drawer .limit) (a .area .now), λ l. absurd (omega arith)),
+      λ x. (held-none (a .drawer .mode) (a .drawer .height) (x .source) (x .held .commands) (x .held .count) (a .text .now) (a .b) (a .drawer .limit) (a .area .now), λ l. absurd (omega (arith, l, c .nothing-kept .ensures))),
     )
 
 shared-slice-read-choose-byte : tie.Need-shared-slice-read-choose-byte Inv-loop μ-loop
-shared-slice-read-choose-byte c = omega (arith, c .before .loop-test .taken, c .before .before .before .before .before .before .before .before .before .before .before .before .before .before .pre .1 .1 .1, behind-le (c .before .before .before .before .before .before .before .before .before .before .before .before .before .before .args .text .now))
+shared-slice-read-choose-byte c = omega (arith, c .before .loop-test .taken, c .before .before .before .before .before .before .before .before .before .before .before .before .before .before .before .pre .1 .1 .1, behind-le (c .before .before .before .before .before .before .before .before .before .before .before .before .before .before .before .args .text .now))
 
 slice-aggregate-choose-byte : tie.Need-slice-aggregate-choose-byte Inv-loop μ-loop
 slice-aggregate-choose-byte c = search needs
 
 choose-byte-requires : tie.Need-choose-byte-requires Inv-loop μ-loop
-choose-byte-requires c κs = let x = c .before .before .before .before .before .before .before .before .before .before .before .before .before .before .before .pre .0 in ((x .source, x .given), ((x .control, x .held), omega (arith, c .before .before .before .loop .inv .2)))
+choose-byte-requires c κs = let x = c .before .before .before .before .before .before .before .before .before .before .before .before .before .before .before .before .pre .0 in ((x .source, x .given), ((x .control, x .held), omega (arith, c .before .before .before .loop .inv .2)))
 
 slice-aggregate-draw-chosen : tie.Need-slice-aggregate-draw-chosen Inv-loop μ-loop
 slice-aggregate-draw-chosen c = search needs
@@ -62,10 +65,10 @@ slice-aggregate-draw-chosen-2 c = search needs
 
 draw-chosen-requires : tie.Need-draw-chosen-requires Inv-loop μ-loop
 draw-chosen-requires c κs =
-    let p = c .before .before .before .before .before .before .before .before .before .before .before .before .before .before .before .before .before .before .before .before .pre in
+    let p = c .before .before .before .before .before .before .before .before .before .before .before .before .before .before .before .before .before .before .before .before .before .pre in
     let x = p .0 in
     let l = c .before .before .before .before .before .before .before .before .loop in
-    ((_, c .before .before .before .before .choose-byte .ensures (x .source) (x .given) (x .control) (x .held)), ((l .inv .0, p .1 .0 .0, given-high _ _ _ _ _ _ _ _ (x .given) .1, omega (arith, p .1 .0 .1, l .inv .1)), c .before .before .before .before .before .before .before .before .before .row-starts .ensures))
+    ((_, c .before .before .before .before .choose-byte .ensures (x .source) (x .given) (x .control) (x .held)), ((l .inv .0, p .1 .0 .0, given-high _ _ _ _ _ _ _ _ (x .given) .1, omega (arith, p .1 .0 .1, l .inv .1)), c .before .before .before .before .before .before .before .before .before .before .row-starts .ensures))
 
 line-sought-requires : tie.Need-line-sought-requires Inv-loop μ-loop
 line-sought-requires c κs = search needs
@@ -78,9 +81,9 @@ same-length-2 c = omega (arith, c .before .before .before .before .draw-chosen .
 
 returns : tie.Need-returns Inv-loop μ-loop
 returns c =
-    let a = c .before .before .before .before .before .before .before .before .before .before .before .before .before .before .before .before .before .before .before .before .before .before .before .before .before .args in
+    let a = c .before .before .before .before .before .before .before .before .before .before .before .before .before .before .before .before .before .before .before .before .before .before .before .before .before .before .args in
     let l = c .before .before .before .before .before .before .before .before .before .before .before .before .before .loop in
-    let in-text : l .i < length (a .text .now) = omega (arith, c .before .before .before .before .before .before .before .before .before .before .before .before .loop-test .taken, c .before .before .before .before .before .before .before .before .before .before .before .before .before .before .before .before .before .before .before .before .before .before .before .before .before .pre .1 .1 .1, behind-le (a .text .now)) in (
+    let in-text : l .i < length (a .text .now) = omega (arith, c .before .before .before .before .before .before .before .before .before .before .before .before .loop-test .taken, c .before .before .before .before .before .before .before .before .before .before .before .before .before .before .before .before .before .before .before .before .before .before .before .before .before .before .pre .1 .1 .1, behind-le (a .text .now)) in (
       l .inv .5,
       (
         sought-between (a .text .now) (a .b) (l .i) (l .last) (l .n) (l .kept) _ (c .line-sought .ensures) (l .inv .3) (a .drawer .limit) (l .inv .0),
@@ -97,16 +100,16 @@ returns c =
     )
 
 add-i : tie.Need-add-i Inv-loop μ-loop
-add-i c = omega (arith, c .before .before .before .before .before .before .before .before .before .before .before .loop-test .taken, c .before .before .before .before .before .before .before .before .before .before .before .before .before .before .before .before .before .before .before .before .before .before .before .before .fits .stop)
+add-i c = omega (arith, c .before .before .before .before .before .before .before .before .before .before .before .loop-test .taken, c .before .before .before .before .before .before .before .before .before .before .before .before .before .before .before .before .before .before .before .before .before .before .before .before .before .fits .stop)
 
 last-end-requires : tie.Need-last-end-requires Inv-loop μ-loop
-last-end-requires c κs = (omega arith, omega (arith, c .before .before .before .before .before .before .before .before .before .before .before .loop-test .taken, c .before .before .before .before .before .before .before .before .before .before .before .before .before .before .before .before .before .before .before .before .before .before .before .before .pre .1 .1 .1, behind-le (c .before .before .before .before .before .before .before .before .before .before .before .before .before .before .before .before .before .before .before .before .before .before .before .before .args .text .now)))
+last-end-requires c κs = (omega arith, omega (arith, c .before .before .before .before .before .before .before .before .before .before .before .loop-test .taken, c .before .before .before .before .before .before .before .before .before .before .before .before .before .before .before .before .before .before .before .before .before .before .before .before .before .pre .1 .1 .1, behind-le (c .before .before .before .before .before .before .before .before .before .before .before .before .before .before .before .before .before .before .before .before .before .before .before .before .before .args .text .now)))
 
 keep-line-requires : tie.Need-keep-line-requires Inv-loop μ-loop
 keep-line-requires c κs =
-    let p = c .before .before .before .before .before .before .before .before .before .before .before .before .before .before .before .before .before .before .before .before .before .before .before .before .before .before .before .pre in
+    let p = c .before .before .before .before .before .before .before .before .before .before .before .before .before .before .before .before .before .before .before .before .before .before .before .before .before .before .before .before .pre in
     let l = c .before .before .before .before .before .before .before .before .before .before .before .before .before .before .before .loop in
-    let stops = behind-le (c .before .before .before .before .before .before .before .before .before .before .before .before .before .before .before .before .before .before .before .before .before .before .before .before .before .before .before .args .text .now) in (
+    let stops = behind-le (c .before .before .before .before .before .before .before .before .before .before .before .before .before .before .before .before .before .before .before .before .before .before .before .before .before .before .before .before .args .text .now) in (
       (omega (arith, p .1 .1 .1, stops), omega (arith, p .1 .1 .1, stops, p .1 .0 .3), omega (arith, c .before .before .before .if1 .left), p .1 .0 .0),
       (given-high _ _ _ _ _ _ _ _ (p .0 .given) .1, omega (arith, p .1 .0 .1, c .before .before .before .before .before .before .draw-chosen .kept, l .inv .1), omega (arith, p .1 .0 .2, l .inv .4)),
     )
@@ -116,9 +119,9 @@ loop-less c = omega (arith, c .before .before .before .before .before .before .b
 
 loop-again : tie.Need-loop-again Inv-loop μ-loop
 loop-again c =
-    let a = c .before .before .before .before .before .before .before .before .before .before .before .before .before .before .before .before .before .before .before .before .before .before .before .before .before .before .before .before .before .before .args in
+    let a = c .before .before .before .before .before .before .before .before .before .before .before .before .before .before .before .before .before .before .before .before .before .before .before .before .before .before .before .before .before .before .before .args in
     let l = c .before .before .before .before .before .before .before .before .before .before .before .before .before .before .before .before .before .before .loop in
-    let in-text : l .i < length (a .text .now) = omega (arith, c .before .before .before .before .before .before .before .before .before .before .before .before .before .before .before .before .before .loop-test .taken, c .before .before .before .before .before .before .before .before .before .before .before .before .before .before .before .before .before .before .before .before .before .before .before .before .before .before .before .before .before .before .pre .1 .1 .1, behind-le (a .text .now)) in (
+    let in-text : l .i < length (a .text .now) = omega (arith, c .before .before .before .before .before .before .before .before .before .before .before .before .before .before .before .before .before .loop-test .taken, c .before .before .before .before .before .before .before .before .before .before .before .before .before .before .before .before .before .before .before .before .before .before .before .before .before .before .before .before .before .before .before .pre .1 .1 .1, behind-le (a .text .now)) in (
       omega (arith, c .before .before .before .before .before .before .if1 .left),
       omega (arith, c .before .before .before .before .before .before .before .before .before .draw-chosen .kept, l .inv .1),
       omega (arith, c .before .before .before .before .before .before .before .before .before .before .before .before .before .before .choose-byte .kept, l .inv .2),
@@ -142,9 +145,9 @@ same-length-4 c = omega (arith, c .before .before .loop .inv .1)
 
 returns-2 : tie.Need-returns-2 Inv-loop μ-loop
 returns-2 c =
-    let a = c .before .before .before .before .before .before .before .before .before .before .before .before .before .before .args in
+    let a = c .before .before .before .before .before .before .before .before .before .before .before .before .before .before .before .args in
     let l = c .before .before .loop in
-    let p = c .before .before .before .before .before .before .before .before .before .before .before .before .before .before .pre .1 .1 in (
+    let p = c .before .before .before .before .before .before .before .before .before .before .before .before .before .before .before .pre .1 .1 in (
       l .inv .5,
       (
         sought-between (a .text .now) (a .b) (l .i) (l .last) (l .n) (l .kept) _ (c .line-sought2 .ensures) (l .inv .3) (a .drawer .limit) (l .inv .0),
@@ -164,6 +167,7 @@ seek-end-spec =
     Inv-loop
     μ-loop
     row-starts-requires
+    nothing-kept-requires
     loop-holds
     shared-slice-read-choose-byte
     slice-aggregate-choose-byte
