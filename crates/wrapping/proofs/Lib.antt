@@ -1,7 +1,4 @@
--- The laws of words, of lines, and of their drawings.
-pub mod Largest
-pub mod WordLaws
-pub mod BreakingLaws
+-- The laws of lines and of their drawings.
 pub mod MeasureLaws
 pub mod DrawnLaws
 pub mod SearchLaws

@@ -15,13 +15,14 @@ use Rattle.join.specs.Writing.{Like}
 use Rattle.figure.specs.Scratch.{scratchLine}
 use Rattle.wrapping.specs.declared.Kept.{Kept}
 use Rattle.wrapping.specs.declared.Sought.{Sought}
-use Rattle.wrapping.specs.Words.{inWord, wordBehind, endsWord}
-use Rattle.wrapping.specs.Breaking.{largest, spanEnd}
+use Rattle.words.specs.Words.{inWord, wordBehind, endsWord}
+use Rattle.words.specs.Breaking.{largest, spanEnd}
 use Rattle.wrapping.specs.Wrapping.{part, wideIn}
-use Rattle.wrapping.specs.Steps.{Grows, Opens, lastBehind, KeptAs, SoughtFrom}
-use Rattle.wrapping.proofs.Largest.{largest-le, largest-holds, largest-max, largest-next}
-use Rattle.wrapping.proofs.WordLaws.{run-one, word-ends, behind-ends, behind-all}
-use Rattle.wrapping.proofs.BreakingLaws.{WordsFit, Line, line-is}
+use Rattle.words.specs.Steps.{Grows, Opens, lastBehind}
+use Rattle.wrapping.specs.Steps.{KeptAs, SoughtFrom}
+use Rattle.words.proofs.Largest.{largest-le, largest-holds, largest-max, largest-next}
+use Rattle.words.proofs.WordLaws.{run-one, word-ends, behind-ends, behind-all}
+use Rattle.words.proofs.BreakingLaws.{WordsFit, Line, line-is}
 
 -- The search has come from b to e, and `last` is where a word ended last (b where none has).
 module _ (s : List ℕ) (b : ℕ) where

@@ -19,11 +19,12 @@ use Rattle.figure.specs.Line.{withLF, shown}
 use Rattle.figure.specs.Scratch.{lineStart, scratchLine}
 use Rattle.figure.proofs.Showing.{shown-like}
 use Rattle.drawing.specs.Steps.{Reached}
-use Rattle.wrapping.specs.Breaking.{spanEnd}
+use Rattle.words.specs.Breaking.{spanEnd}
 use Rattle.wrapping.specs.Wrapping.{part, wideIn}
 use Rattle.wrapping.specs.declared.DrawnSpan.{DrawnSpan}
-use Rattle.wrapping.specs.Steps.{Opens, SpanDrawn}
-use Rattle.wrapping.proofs.BreakingLaws.{line-is}
+use Rattle.words.specs.Steps.{Opens}
+use Rattle.wrapping.specs.Steps.{SpanDrawn}
+use Rattle.words.proofs.BreakingLaws.{line-is}
 
 -- A line that is drawn again fits.
 module _ (y : Mode) (h : ℕ) (line : List ℕ → Block) (limit : ℕ) (s : List ℕ) (b : ℕ) (o : Opens (wideIn line s) limit s b) where

@@ -24,27 +24,9 @@ use Rattle.wrapping.specs.declared.Sought.{Sought}
 use Rattle.wrapping.specs.declared.DrawnSpan.{DrawnSpan}
 use Rattle.wrapping.specs.declared.LinesPut.{LinesPut}
 use Rattle.wrapping.specs.declared.LinesPut.the-variants.{Put, NoRoom}
-use Rattle.wrapping.specs.Words.{inWord}
-use Rattle.wrapping.specs.Breaking.{Span, largest, spanEnd}
+use Rattle.words.specs.Words.{inWord}
+use Rattle.words.specs.Breaking.{Span, largest, spanEnd}
 use Rattle.wrapping.specs.Wrapping.{part, wideIn, firstWider}
-
--- No byte of a word alone is wider than the limit: 19 is not given.
-abbrev pub NoneWider : (ℕ → ℕ → ℕ) → ℕ → List ℕ → Type 0
-NoneWider wide limit s = (p : ℕ) → p < length s → inWord (getD s p 0) ≡ true → wide p (p + 1) ≤ limit
-
--- A longer part of the text is never narrower.
-abbrev pub Grows : (ℕ → ℕ → ℕ) → List ℕ → Type 0
-Grows wide s = (b e e′ : ℕ) → b ≤ e → e ≤ e′ → e′ ≤ length s → wide b e ≤ wide b e′
-
--- A line starts at b: a byte of a word, which alone fits.
-pub record Opens (wide : ℕ → ℕ → ℕ) (limit : ℕ) (s : List ℕ) (b : ℕ) : Type 0 where
-  pub within : b < length s
-  pub first : inWord (getD s b 0) ≡ true
-  pub one : wide b (b + 1) ≤ limit
-
--- The place behind the last word; 0 in a text without words.
-unfoldable pub lastBehind : List ℕ → ℕ
-lastBehind s = largest (λ k. inWord (getD s (k - 1) 0)) (length s)
 
 -- The bytes and the lists by which texts are drawn: they give the characters of a source and hold the commands of a control file.
 pub record DrawsBy (d : Drawer) (font : List ℕ) (codes : List ℤ) (starts widths places stages : List ℕ) (firsts lasts news : List ℤ) : Type 0 where

@@ -1,6 +1,4 @@
 // A text drawn in lines that are at most a limit wide.
-pub mod words;
-
 use drawing::Files;
 use ground::limits;
 use ground::refusals;
@@ -29,9 +27,10 @@ ghost use Rattle.source.specs.Steps.{ChosenAs};
 ghost use Rattle.source.specs.Counting.{isMissing, howMany, countsOf};
 ghost use Rattle.drawing.specs.Drawing.{textCodes};
 ghost use Rattle.drawing.specs.Held.{FilesHeld};
-ghost use Rattle.wrapping.specs.Breaking.{Span, spansOf};
+ghost use Rattle.words.specs.Breaking.{Span, spansOf};
 ghost use Rattle.wrapping.specs.Wrapping.{lineBy, wideIn, drawings, tooWide, Wrap, wrapLines, wrapText, badLimit, wrapOf, drawWrapped, WrapOut};
-ghost use Rattle.wrapping.specs.Steps.{NoneWider, lastBehind, Opens, DrawsBy, MeasuredAs, KeptAs, SoughtFrom, Ready, SpanDrawn, PutAs};
+ghost use Rattle.words.specs.Steps.{NoneWider, lastBehind, Opens};
+ghost use Rattle.wrapping.specs.Steps.{DrawsBy, MeasuredAs, KeptAs, SoughtFrom, Ready, SpanDrawn, PutAs};
 
 // What drawing a text in lines answers: how many lines, and the counts of the whole text; or a refusal.
 pub enum WrapAnswer {
@@ -190,6 +189,27 @@ fn nothing_kept(b: usize) -> Kept
     }
 }
 
+// Whether the next word, with the blanks before it, may be wider than the room behind a word that ends at place e. The characters' widths are added up as if none
+// overlapped: where it is false, the word fits.
+fn may_not_fit(text: &[u8], wide: &[usize], e: usize, stop: usize, room: usize) -> bool
+    requires { ⌜ (stop ≤ length (now text)) × (stop ≤ length (now wide)) ⌝ }
+{
+    let mut left = room;
+    let mut i = e;
+    while i < stop {
+        let w = wide[i];
+        if left < w {
+            return true;
+        }
+        left -= w;
+        i += 1;
+        if words::ends_word(text, i) {
+            return false;
+        }
+    }
+    false
+}
+
 // Whether a line that is n wide at place e is worth keeping: a word ends there, the next one may not fit, and no more columns were put out for the line than it is
 // wide, so that all that is put out for a line is at most twice the line.
 fn worth_keeping(
@@ -211,7 +231,7 @@ fn worth_keeping(
     if n < kept.columns {
         return false;
     }
-    words::may_not_fit(text, wide, e, stop, limit - n)
+    may_not_fit(text, wide, e, stop, limit - n)
 }
 
 // Keeps a line that is n wide at place e, as the area holds it, at its place in the output, where that is worth it and the output has room.

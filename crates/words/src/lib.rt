@@ -3,11 +3,11 @@ ghost use mathlib.Core.Path.{_≡_};
 ghost use mathlib.Core.Bool.{cond};
 ghost use Prim.Native.Nat.{_≤_};
 ghost use lib.ListN.{length};
-ghost use Rattle.wrapping.specs.Words.{wordFrom, endsWord};
-ghost use Rattle.wrapping.specs.Steps.{lastBehind};
+ghost use Rattle.words.specs.Words.{wordFrom, endsWord};
+ghost use Rattle.words.specs.Steps.{lastBehind};
 
 // Whether a word ends directly before place e.
-fn ends_word(text: &[u8], e: usize) -> bool
+pub fn ends_word(text: &[u8], e: usize) -> bool
     requires { ⌜ (1 ≤ e) × (e ≤ length (now text)) ⌝ }
     ensures { λ t. ⌜ t ≡ endsWord (now (text .entry)) e ⌝ }
 {
@@ -29,27 +29,6 @@ pub fn last_end(text: &[u8], e: usize, last: usize) -> usize
         return e;
     }
     last
-}
-
-// Whether the next word, with the blanks before it, may be wider than the room behind a word that ends at place e. The characters' widths are added up as if none
-// overlapped: where it is false, the word fits.
-pub fn may_not_fit(text: &[u8], wide: &[usize], e: usize, stop: usize, room: usize) -> bool
-    requires { ⌜ (stop ≤ length (now text)) × (stop ≤ length (now wide)) ⌝ }
-{
-    let mut left = room;
-    let mut i = e;
-    while i < stop {
-        let w = wide[i];
-        if left < w {
-            return true;
-        }
-        left -= w;
-        i += 1;
-        if ends_word(text, i) {
-            return false;
-        }
-    }
-    false
 }
 
 // The first place from p on where a byte of a word stands; the text's end where there is none.

@@ -1,10 +1,10 @@
--- `wrapping::words::may_not_fit` meets its contract: it reads within the lists and ends.
+-- `wrapping::may_not_fit` meets its contract: it reads within the lists and ends.
 -- Assumes nothing.
 use Prim.Native.Nat.{_-_, _≤_}
 use native.Mathlib.Omega.{arith}
 use borrow.Author.Needs.{needs}
-use Rattle.wrapping.proofs.words.may_not_fit.Statement.{statement}
-use Rattle.wrapping.proofs.words.may_not_fit.Tie as tie
+use Rattle.wrapping.proofs.may_not_fit.Statement.{statement}
+use Rattle.wrapping.proofs.may_not_fit.Tie as tie
 
 abbrev Inv-loop : tie.InvT-loop
 Inv-loop text wide e stop room left₀ i₀ left i = e ≤ i
