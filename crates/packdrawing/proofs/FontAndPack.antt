@@ -158,7 +158,7 @@ layouts-good old Absent = old-good old
 layouts-good old (Of n) = go (has n 128) (has n 64)
   where
     go : (a b : Bool) → goodLayout (cond a (Smushing (smushingBy (n % 64))) (cond b Fitting FullWidth)) ≡ true
-    go true b = kind-good (n % 64) (mod-lt n 64 (omega arith))
+    go true b = kind-good (n % 64) (omega arith)
     go false true = refl
     go false false = refl
 

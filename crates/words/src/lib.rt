@@ -3,11 +3,11 @@ ghost use mathlib.Core.Path.{_≡_};
 ghost use mathlib.Core.Bool.{cond};
 ghost use Prim.Native.Nat.{_≤_};
 ghost use lib.ListN.{length};
-ghost use Rattle.wrapping.specs.Words.{wordFrom, endsWord};
-ghost use Rattle.wrapping.specs.Steps.{lastBehind};
+ghost use Rattle.words.specs.Words.{wordFrom, endsWord};
+ghost use Rattle.words.specs.Steps.{lastBehind};
 
 // Whether a word ends directly before place e.
-fn ends_word(text: &[u8], e: usize) -> bool
+pub fn ends_word(text: &[u8], e: usize) -> bool
     requires { ⌜ (1 ≤ e) × (e ≤ length (now text)) ⌝ }
     ensures { λ t. ⌜ t ≡ endsWord (now (text .entry)) e ⌝ }
 {
