@@ -7,6 +7,7 @@ use header::Header;
 use index::latest;
 use source::Chosen;
 use source::Counts;
+use source::Origin;
 use subchars::Mode;
 ghost use mathlib.Core.Path.{_≡_};
 ghost use mathlib.Core.Bool.{true, cond};
@@ -132,7 +133,9 @@ fn measure(
             text[i],
             font,
             drawer.height,
-            drawer.count,
+            Origin::Font {
+                count: drawer.count,
+            },
             codes,
             starts,
             widths,
@@ -311,7 +314,9 @@ fn seek_end(
             text[i],
             font,
             height,
-            drawer.count,
+            Origin::Font {
+                count: drawer.count,
+            },
             codes,
             starts,
             widths,
@@ -378,7 +383,9 @@ fn finish_span(
         mode,
         drawer.height,
         font,
-        drawer.count,
+        Origin::Font {
+            count: drawer.count,
+        },
         codes,
         starts,
         widths,
@@ -616,7 +623,9 @@ fn wrap_lines(
         missing,
         font,
         drawer.height,
-        drawer.count,
+        Origin::Font {
+            count: drawer.count,
+        },
         codes,
         starts,
         widths,
