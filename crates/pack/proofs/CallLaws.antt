@@ -8,6 +8,7 @@ use native.Mathlib.Omega.{arith}
 use native.Mathlib.Nat.{mul-le-mul-right}
 use lib.Dec.{eqb, leb}
 use lib.ListN.{length, take, drop, getD, set, length-set, length-append, length-replicate, replicate-append-replicate}
+use denote.Ref.{RefT, ptr}
 use borrow.Author.Tests.{eq-eqb, ne-eqb, le-leb, lt-leb, leb-true, eqb-true}
 use Rattle.ground.specs.Area.{zeros, padded}
 use Rattle.ground.specs.Runs.{all}
@@ -34,10 +35,11 @@ use Rattle.edits.proofs.PlaceLaws.{place-removed, place-live, place-inside, spo
 use Rattle.heads.specs.declared.Opened.the-variants.{Says, Damaged}
 use Rattle.heads.specs.Pack.{Pack, says, damaged, meaning, remade, openedBy}
 use Rattle.pack.specs.declared.PackAnswer.the-variants as checked
+use Rattle.pack.specs.declared.Located.{Located}
 use Rattle.pack.specs.declared.Located.the-variants as located
 use Rattle.pack.specs.declared.FindAnswer.the-variants as sought
 use Rattle.pack.specs.declared.EditAnswer.the-variants.{Done, Refused}
-use Rattle.pack.specs.Calls.{checkTold, locatedAt, locatedIn, foundAt, findTold, partOf, rowsTold, Change, changed, refused, after, tells, Changes, removal, goodLetter, hasRoom, insertion, Puttable, compaction}
+use Rattle.pack.specs.Calls.{checkTold, locatedAt, locatedIn, foundAt, findTold, partOf, rowsTold, LiesIn, Change, changed, refused, after, tells, Changes, removal, goodLetter, hasRoom, insertion, Puttable, compaction}
 use Rattle.heads.proofs.HeadLaws.{Headed}
 use Rattle.heads.proofs.FindLaws.{records-are, place-in}
 use Rattle.heads.proofs.OpenLaws.{Opens, opens-of, Told, told, told-damaged, pack-wholes, pack-bytes, head-size, pack-fits, remade-is}
@@ -238,6 +240,14 @@ rows-of s code start w size e =
 pub rows-none : (s : List ℕ) (code : ℕ) (r : Refusal) → located.Refused r ≡ locatedIn (meaning s) code → [] ≡ rowsTold s code
 unfolding rowsTold
 rows-none s code r e = ap (partOf s) e
+
+-- The part lies where find tells, and a refusal tells nothing.
+module _ (pack part : RefT (List ℕ)) (x : Located) where
+  pub lies-there : (p w size : ℕ) → located.Rows p w size ≡ x → ptr part .0 ≡ ptr pack .0 → ptr part .1 ≡ p + ptr pack .1 → LiesIn pack x part
+  lies-there p w size e m o = record { there = λ q v n f. let g : located.Rows p w size ≡ located.Rows q v n = e ∙ f in let k : p ≡ q = cc in (m, o ∙ ap (λ (j : ℕ). j + ptr pack .1) k) }
+
+  pub lies-nowhere : (r : Refusal) → located.Refused r ≡ x → LiesIn pack x part
+  lies-nowhere r e = record { there = λ p w n f. let g : located.Refused r ≡ located.Rows p w n = e ∙ f in clash (cc) }
 
 -- What `find` answers.
 pub find-rows-at : (s : List ℕ) (code place w size : ℕ) → located.Rows place w size ≡ locatedIn (meaning s) code → sought.Found place w ≡ findTold (meaning s) code

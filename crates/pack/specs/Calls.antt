@@ -6,6 +6,7 @@ use mathlib.Core.Bool.{Bool, true, cond, not, _&&_, _||_}
 use mathlib.Core.List.{List, []}
 use lib.Dec.{eqb, leb}
 use lib.ListN.{length, take, drop}
+use denote.Ref.{RefT, ptr}
 use Rattle.ground.specs.Refusals.{refusal, badShape, damagedPack, codePresent, codeAbsent, noRoom}
 use Rattle.ground.specs.Runs.{all}
 use Rattle.records.specs.declared.Head.{Head}
@@ -54,6 +55,10 @@ partOf s (located.Refused r) = []
 
 unfoldable pub rowsTold : List ℕ → ℕ → List ℕ
 rowsTold s code = partOf s (locatedIn (meaning s) code)
+
+-- The part itself, and not a place with equal bytes: it lies in the same memory as the pack, as far behind its start as find tells.
+pub record LiesIn (pack : RefT (List ℕ)) (x : Located) (part : RefT (List ℕ)) : Type 0 where
+  pub there : (place width size : ℕ) → x ≡ located.Rows place width size → (ptr part .0 ≡ ptr pack .0) × (ptr part .1 ≡ place + ptr pack .1)
 
 -- The letter that find tells of a code: its width and its rows; none where it refuses.
 abbrev pub letterOf : List ℕ → FindAnswer → Letter

@@ -25,7 +25,7 @@ ghost use lib.ListN.{length};
 ghost use Rattle.ground.specs.Limits.{maxHeight};
 ghost use Rattle.records.specs.Codes.{bitsOf};
 ghost use Rattle.heads.specs.Pack.{meaning};
-ghost use Rattle.pack.specs.Calls.{goodLetter, checkTold, locatedIn, findTold, rowsTold, removal, insertion, compaction, Changes, Puttable};
+ghost use Rattle.pack.specs.Calls.{goodLetter, checkTold, locatedIn, findTold, rowsTold, LiesIn, removal, insertion, compaction, Changes, Puttable};
 
 // Height and number of live records.
 pub enum PackAnswer {
@@ -137,8 +137,9 @@ pub fn find(pack: &[u8], code: Code) -> FindAnswer
 }
 
 // The rows of a code's letter, a part of the pack; nothing where `find` refuses.
-pub fn find_rows(pack: &[u8], code: Code) -> &[u8]
-    ensures { λ r. ⌜ now r ≡ rowsTold (now (pack .entry)) (bitsOf (code .0)) ⌝ }
+pub fn find_rows<'a>(pack: &'a [u8], code: Code) -> &'a [u8]
+    ensures part { λ r. ⌜ now r ≡ rowsTold (now (pack .entry)) (bitsOf (code .0)) ⌝ }
+    ensures place { λ r. ⌜ LiesIn (pack .entry) (locatedIn (meaning (now (pack .entry))) (bitsOf (code .0))) r ⌝ }
 {
     match locate(pack, code) {
         Located::Rows {

@@ -1,9 +1,9 @@
 -- `pack::find_rows` meets its contract.
 -- Assumes nothing.
-use mathlib.Core.Path.{_≡_, refl, sym, ap, _∙_, subst}
+use mathlib.Core.Path.{refl, sym, _∙_}
 use native.Mathlib.Omega.{arith}
 use borrow.Author.Needs.{needs}
-use Rattle.pack.proofs.CallLaws.{rows-inside, rows-of, rows-none}
+use Rattle.pack.proofs.CallLaws.{rows-inside, rows-of, rows-none, lies-there, lies-nowhere}
 use Rattle.pack.proofs.find_rows.Statement.{statement}
 use Rattle.pack.proofs.find_rows.Tie as tie
 
@@ -38,10 +38,14 @@ part-result-end-2 : tie.Need-part-result-end-2
 part-result-end-2 c = search needs
 
 returns : tie.Need-returns
-returns c = rows-of (c .before .before .before .before .before .before .args .pack .now) _ _ _ _ (sym (c .before .before .place .given .1) ∙ c .before .before .before .before .locate .ensures)
+returns c =
+    let e = sym (c .before .before .place .given .1) ∙ c .before .before .before .before .locate .ensures in
+    (rows-of (c .before .before .before .before .before .before .args .pack .now) _ _ _ _ e, lies-there _ _ _ _ _ _ e refl refl)
 
 returns-2 : tie.Need-returns-2
-returns-2 c = rows-none (c .before .before .before .before .before .args .pack .now) _ _ (sym (c .before .enum-told .given .1) ∙ c .before .before .before .locate .ensures)
+returns-2 c =
+    let e = sym (c .before .enum-told .given .1) ∙ c .before .before .before .locate .ensures in
+    (rows-none (c .before .before .before .before .before .args .pack .now) _ _ e, lies-nowhere _ _ _ _ e)
 
 pub find-rows-spec : {M : Type 1} → statement M
 find-rows-spec =
