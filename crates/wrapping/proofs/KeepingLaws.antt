@@ -1,9 +1,9 @@
 -- A line that is kept at its place in the output while its end is sought.
 -- Assumes nothing.
-use mathlib.Core.Path.{_≡_, refl, sym, ap, _∙_, subst}
+use mathlib.Core.Path.{_≡_, sym, ap, _∙_, subst}
 use mathlib.Core.Bool.{true, false}
 use mathlib.Core.List.{List, _++_}
-use Prim.Native.Nat.{ℕ, _+_, _*_, _≤_, _<_}
+use Prim.Native.Nat.{ℕ, _+_, _*_, _≤_}
 use native.Mathlib.Omega.{arith}
 use lib.ListN.{length, take}
 use lib.Seq.{length-take-le, take-take, take-at}
@@ -33,6 +33,7 @@ module _ (y : Mode) (h w at : ℕ) (area out out′ : List ℕ) (l : at ≤ leng
   pub line-stands : (line : Block) → Like h (scratchLine (y .direction) w area) line → Stands y h line w at out′
   line-stands line like = record { width = like .width; bytes = put line like ∙ ap (λ (x : List ℕ). x ++ shown (y .hardblank .0) h line) (sym line-front) }
 
+-- A flag is not both.
 pub never : true ≡ false → ⊥
 never e = let z : _≡_ {A = ℕ} 0 1 = cc in omega arith
 

@@ -1,11 +1,11 @@
 -- How the lines of a text are found and put out, one after another: what the functions inside know of each other.
 -- Assumes nothing.
 use mathlib.Core.Path.{_≡_}
-use Prim.Native.Nat.{ℕ, _+_, _-_, _*_, _<_, _≤_}
+use Prim.Native.Nat.{ℕ, _+_, _*_, _<_, _≤_}
 use mathlib.Core.Bool.{true, false}
 use mathlib.Core.List.{List, _++_, map}
 use lib.IntN.{ℤ}
-use lib.ListN.{length, take, getD}
+use lib.ListN.{length, take}
 use Rattle.subchars.specs.declared.Mode.{Mode}
 use Rattle.join.specs.Join.{Block}
 use Rattle.join.specs.Writing.{Like}
@@ -25,8 +25,7 @@ use Rattle.wrapping.specs.declared.Sought.{Sought}
 use Rattle.wrapping.specs.declared.DrawnSpan.{DrawnSpan}
 use Rattle.wrapping.specs.declared.LinesPut.{LinesPut}
 use Rattle.wrapping.specs.declared.LinesPut.the-variants.{Put, NoRoom}
-use Rattle.words.specs.Words.{inWord}
-use Rattle.words.specs.Breaking.{Span, largest, spanEnd}
+use Rattle.words.specs.Breaking.{Span, spanEnd}
 use Rattle.wrapping.specs.Wrapping.{part, wideIn, firstWider}
 
 -- The bytes and the lists by which texts are drawn: they give the characters of a source and hold the commands of a control file.
