@@ -138,12 +138,12 @@ use Rattle.twolines.proofs.TableLaws as line-rows
 use Rattle.twolines.proofs.Bytes as line-bytes
 use Rattle.wrapping.specs.declared.WrapAnswer.{WrapAnswer}
 use Rattle.wrapping.specs.declared.WrapAnswer.the-variants as wrap-is
-use Rattle.words.specs.Words.{isBreak, inWord, wordFrom, wordBehind, endsWord}
-use Rattle.words.specs.Breaking.{Span, span, spanEnd, spansFrom, spansOf}
+use Rattle.breaks.specs.Words.{isBreak, inWord, wordFrom, wordBehind, endsWord}
+use Rattle.breaks.specs.Breaking.{Span, span, spanEnd, spansFrom, spansOf}
 use Rattle.wrapping.specs.Wrapping.{wideIn, drawings, choiceWidth, firstWider, Wrap, drawWrapped, wrapIn, wrapAnswer, wrapFirsts, wrapEnds, wrapOutput}
-use Rattle.words.specs.Steps.{lastBehind}
+use Rattle.breaks.specs.Steps.{lastBehind}
 use Rattle.wrapping.proofs.Answers as wrap-answers
-use Rattle.words.proofs.BreakingLaws as breaks
+use Rattle.breaks.proofs.BreakingLaws as breaks
 use Rattle.wrapping.proofs.TableLaws as wrap-rows
 use Rattle.wrapping.proofs.TextLines as text-lines
 use Rattle.wattleslate.specs.declared.RowRefusal.the-variants.{NotRefused, Refused}

@@ -26,7 +26,7 @@ use Rattle.source.specs.declared.Counts.{Counts}
 use Rattle.drawing.specs.Drawing.{Lined, lined, unlined, drawLined, withCounts, linedAnswer, bytesOf}
 use Rattle.twolines.specs.TwoLines.{TwoLines, linesTold, linesBytes, linesOutput}
 use Rattle.wrapping.specs.declared.WrapAnswer.the-variants as wrap
-use Rattle.words.specs.Breaking.{Span}
+use Rattle.breaks.specs.Breaking.{Span}
 use Rattle.wrapping.specs.Wrapping.{Wrap, wrapped, unwrapped, wrapIn, wrapAnswer, wrapSpans, wrapBytes, wrapFirsts, wrapEnds, wrapOutput}
 use Rattle.wattleslate.specs.DrawCall.{drawTells, drawTold, drawOutput}
 

@@ -14,11 +14,11 @@ use Rattle.join.proofs.Likeness.{like-same}
 use Rattle.figure.specs.Line.{shown}
 use Rattle.figure.specs.Scratch.{scratchLine}
 use Rattle.wrapping.specs.declared.Sought.{Sought}
-use Rattle.words.specs.Breaking.{spanEnd}
+use Rattle.breaks.specs.Breaking.{spanEnd}
 use Rattle.wrapping.specs.Wrapping.{part, wideIn}
-use Rattle.words.specs.Steps.{Opens}
+use Rattle.breaks.specs.Steps.{Opens}
 use Rattle.wrapping.specs.Steps.{Stands, SoughtFrom, SpanDrawn}
-use Rattle.words.proofs.BreakingLaws.{line-is}
+use Rattle.breaks.proofs.BreakingLaws.{line-is}
 
 -- What stands before the place where a line is put stays.
 pub front-stays : (at k : ℕ) (out out′ new : List ℕ) → at ≤ length out → take (at + k) out′ ≡ take at out ++ new → take at out′ ≡ take at out

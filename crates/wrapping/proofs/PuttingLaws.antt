@@ -9,13 +9,13 @@ use Rattle.ground.proofs.Areas.{map-more}
 use Rattle.join.specs.Join.{Block}
 use Rattle.figure.specs.Line.{shown}
 use Rattle.figure.proofs.Showing.{length-shown}
-use Rattle.words.specs.Words.{wordFrom}
-use Rattle.words.specs.Breaking.{Span, span, spanEnd, spansFrom, spansOf}
+use Rattle.breaks.specs.Words.{wordFrom}
+use Rattle.breaks.specs.Breaking.{Span, span, spanEnd, spansFrom, spansOf}
 use Rattle.wrapping.specs.Wrapping.{part, wideIn, drawings}
-use Rattle.words.specs.Steps.{NoneWider, lastBehind, Opens}
+use Rattle.breaks.specs.Steps.{NoneWider, lastBehind, Opens}
 use Rattle.wrapping.specs.Steps.{PutSo}
-use Rattle.words.proofs.WordLaws.{start-in-word, behind-le, word-before, word-none}
-use Rattle.words.proofs.BreakingLaws.{from-some, from-none}
+use Rattle.breaks.proofs.WordLaws.{start-in-word, behind-le, word-before, word-none}
+use Rattle.breaks.proofs.BreakingLaws.{from-some, from-none}
 
 module _ (hardblank h : ℕ) (line : List ℕ → Block) (s : List ℕ) where
   abbrev drawn : List Span → List ℕ

@@ -15,14 +15,14 @@ use Rattle.join.specs.Writing.{Like}
 use Rattle.figure.specs.Scratch.{scratchLine}
 use Rattle.wrapping.specs.declared.Kept.{Kept}
 use Rattle.wrapping.specs.declared.Sought.{Sought}
-use Rattle.words.specs.Words.{inWord, wordBehind, endsWord}
-use Rattle.words.specs.Breaking.{largest, spanEnd}
+use Rattle.breaks.specs.Words.{inWord, wordBehind, endsWord}
+use Rattle.breaks.specs.Breaking.{largest, spanEnd}
 use Rattle.wrapping.specs.Wrapping.{part, wideIn}
-use Rattle.words.specs.Steps.{Grows, Opens, lastBehind}
+use Rattle.breaks.specs.Steps.{Grows, Opens, lastBehind}
 use Rattle.wrapping.specs.Steps.{KeptAs, SoughtFrom}
-use Rattle.words.proofs.Largest.{largest-le, largest-holds, largest-max, largest-next}
-use Rattle.words.proofs.WordLaws.{run-one, word-ends, behind-ends, behind-all}
-use Rattle.words.proofs.BreakingLaws.{WordsFit, Line, line-is}
+use Rattle.breaks.proofs.Largest.{largest-le, largest-holds, largest-max, largest-next}
+use Rattle.breaks.proofs.WordLaws.{run-one, word-ends, behind-ends, behind-all}
+use Rattle.breaks.proofs.BreakingLaws.{WordsFit, Line, line-is}
 
 -- The search has come from b to e, and `last` is where a word ended last (b where none has).
 module _ (s : List ℕ) (b : ℕ) where

@@ -25,7 +25,7 @@ use Rattle.wrapping.specs.declared.Sought.{Sought}
 use Rattle.wrapping.specs.declared.DrawnSpan.{DrawnSpan}
 use Rattle.wrapping.specs.declared.LinesPut.{LinesPut}
 use Rattle.wrapping.specs.declared.LinesPut.the-variants.{Put, NoRoom}
-use Rattle.words.specs.Breaking.{Span, spanEnd}
+use Rattle.breaks.specs.Breaking.{Span, spanEnd}
 use Rattle.wrapping.specs.Wrapping.{part, wideIn, firstWider}
 
 -- The bytes and the lists by which texts are drawn: they give the characters of a source and hold the commands of a control file.

@@ -28,9 +28,9 @@ ghost use Rattle.source.specs.Steps.{ChosenAs};
 ghost use Rattle.source.specs.Counting.{isMissing, howMany, countsOf};
 ghost use Rattle.drawing.specs.Drawing.{textCodes};
 ghost use Rattle.drawing.specs.Held.{FilesHeld};
-ghost use Rattle.words.specs.Breaking.{Span, spansOf};
+ghost use Rattle.breaks.specs.Breaking.{Span, spansOf};
 ghost use Rattle.wrapping.specs.Wrapping.{lineBy, wideIn, drawings, tooWide, Wrap, wrapLines, wrapText, badLimit, wrapOf, drawWrapped, WrapOut};
-ghost use Rattle.words.specs.Steps.{NoneWider, lastBehind, Opens};
+ghost use Rattle.breaks.specs.Steps.{NoneWider, lastBehind, Opens};
 ghost use Rattle.wrapping.specs.Steps.{DrawsBy, MeasuredAs, KeptAs, SoughtFrom, Ready, SpanDrawn, PutAs};
 
 // What drawing a text in lines answers: how many lines, and the counts of the whole text; or a refusal.
@@ -206,7 +206,7 @@ fn may_not_fit(text: &[u8], wide: &[usize], e: usize, stop: usize, room: usize) 
         }
         left -= w;
         i += 1;
-        if words::ends_word(text, i) {
+        if breaks::ends_word(text, i) {
             return false;
         }
     }
@@ -334,7 +334,7 @@ fn seek_end(
         }
         n = w;
         i += 1;
-        last = words::last_end(text, i, last);
+        last = breaks::last_end(text, i, last);
         kept = keep_line(out, at, area, text, wide, i, stop, last, n, kept, drawer);
     }
     line_sought(b, last, i, n, kept)
@@ -499,12 +499,12 @@ fn put_lines(
     ensures { λ r. ⌜ ((x : DrawsBy drawer (now (font .entry)) (now (codes .entry)) (now (starts .entry)) (now (widths .entry)) (now (places .entry)) (now (stages .entry)) (now (firsts .entry)) (now (lasts .entry)) (now (news .entry))) → NoneWider (wideIn (lineBy (drawer .mode) (drawer .height) (x .source) (x .held .commands) (x .held .count)) (now (text .entry))) (drawer .limit) (now (text .entry)) → PutAs (spansOf (wideIn (lineBy (drawer .mode) (drawer .height) (x .source) (x .held .commands) (x .held .count)) (now (text .entry))) (drawer .limit) (now (text .entry))) (drawings (drawer .mode .hardblank .0) (drawer .height) (lineBy (drawer .mode) (drawer .height) (x .source) (x .held .commands) (x .held .count)) (now (text .entry))) (length (now (out .entry))) r (now («line_firsts» .exit)) (now («line_ends» .exit)) (now (out .exit))) ⌝ }
 {
     let mode = drawer.mode;
-    let stop = words::last_behind(text);
+    let stop = breaks::last_behind(text);
     let mut p: usize = 0;
     let mut lines: usize = 0;
     let mut bytes: usize = 0;
     while p < stop {
-        let b = words::word_from(text, p);
+        let b = breaks::word_from(text, p);
         let line = draw_span(
             out,
             bytes,

@@ -11,9 +11,9 @@ use Rattle.ground.specs.Limits.{maxText, maxLineWidth, maxHeight}
 use Rattle.join.specs.Join.{Block}
 use Rattle.source.proofs.CharacterLaws.{given-high}
 use Rattle.wrapping.specs.Wrapping.{lineBy, wideIn}
-use Rattle.words.specs.Steps.{NoneWider, lastBehind, Opens}
+use Rattle.breaks.specs.Steps.{NoneWider, lastBehind, Opens}
 use Rattle.wrapping.specs.Steps.{DrawsBy, SpanDrawn}
-use Rattle.words.proofs.WordLaws.{behind-le, word-before}
+use Rattle.breaks.proofs.WordLaws.{behind-le, word-before}
 use Rattle.wrapping.proofs.SpanLaws.{span-facts}
 use Rattle.wrapping.proofs.PuttingLaws.{PutTo, put-none, put-next, put-end, no-room, opens-at}
 use Rattle.wrapping.proofs.put_lines.Statement.{statement}

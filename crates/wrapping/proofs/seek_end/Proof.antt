@@ -11,7 +11,7 @@ use Rattle.ground.specs.Limits.{maxHeight}
 use Rattle.source.proofs.CharacterLaws.{given-high}
 use Rattle.wrapping.specs.Wrapping.{part, lineBy, wideIn}
 use Rattle.wrapping.specs.Steps.{DrawsBy, KeptAs}
-use Rattle.words.proofs.WordLaws.{behind-le}
+use Rattle.breaks.proofs.WordLaws.{behind-le}
 use Rattle.wrapping.proofs.DrawnLaws.{part-grows, HeldTo, held-none, held-next, held-beyond}
 use Rattle.wrapping.proofs.SearchLaws.{Scanned, scan-none, scan-next, found-beyond, found-last, sought-between, sought-so}
 use Rattle.wrapping.proofs.seek_end.Statement.{statement}

@@ -5,7 +5,7 @@ use mathlib.Core.List.{List}
 use Prim.Native.Nat.{ℕ}
 use lib.ListN.{length}
 use borrow.Author.Needs.{needs}
-use Rattle.words.specs.Breaking.{Span, spansOf}
+use Rattle.breaks.specs.Breaking.{Span, spansOf}
 use Rattle.wrapping.specs.Wrapping.{lineBy, wideIn, drawings, wrapLines}
 use Rattle.wrapping.proofs.OrderLaws.{out-as, out-rooms, put-room}
 use Rattle.wrapping.proofs.wrap_lines.Statement.{statement}

@@ -1,9 +1,9 @@
--- `words::ends_word` meets its contract: one law for each answer.
+-- `breaks::ends_word` meets its contract: one law for each answer.
 -- Assumes nothing.
 use borrow.Author.Needs.{needs}
-use Rattle.words.proofs.WordLaws.{behind-blank, before-byte, at-end}
-use Rattle.words.proofs.ends_word.Statement.{statement}
-use Rattle.words.proofs.ends_word.Tie as tie
+use Rattle.breaks.proofs.WordLaws.{behind-blank, before-byte, at-end}
+use Rattle.breaks.proofs.ends_word.Statement.{statement}
+use Rattle.breaks.proofs.ends_word.Tie as tie
 
 sub-if1 : tie.Need-sub-if1
 sub-if1 c = search needs

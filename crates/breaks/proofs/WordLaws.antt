@@ -14,10 +14,10 @@ use borrow.Author.Tests.{eq-eqb, ne-eqb, eqb-true, not-true, not-false}
 use Rattle.ground.specs.Runs.{run}
 use Rattle.ground.proofs.Runs.{run-le, counted-none, counted-more, counted-stop, counted-end}
 use Rattle.ground.proofs.Tests.{and-both, and-left, and-right, or-left, or-right, or-elim, never-both}
-use Rattle.words.specs.Words.{isBreak, inWord, wordFrom, wordBehind, endsWord}
-use Rattle.words.specs.Breaking.{largest}
-use Rattle.words.specs.Steps.{lastBehind}
-use Rattle.words.proofs.Largest.{largest-le, largest-holds, largest-max, largest-next, run-at, run-end}
+use Rattle.breaks.specs.Words.{isBreak, inWord, wordFrom, wordBehind, endsWord}
+use Rattle.breaks.specs.Breaking.{largest}
+use Rattle.breaks.specs.Steps.{lastBehind}
+use Rattle.breaks.proofs.Largest.{largest-le, largest-holds, largest-max, largest-next, run-at, run-end}
 
 module _ (s : List ℕ) where
   -- the bytes of a run from a place on

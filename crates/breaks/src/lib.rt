@@ -3,8 +3,8 @@ ghost use mathlib.Core.Path.{_≡_};
 ghost use mathlib.Core.Bool.{cond};
 ghost use Prim.Native.Nat.{_≤_};
 ghost use lib.ListN.{length};
-ghost use Rattle.words.specs.Words.{wordFrom, endsWord};
-ghost use Rattle.words.specs.Steps.{lastBehind};
+ghost use Rattle.breaks.specs.Words.{wordFrom, endsWord};
+ghost use Rattle.breaks.specs.Steps.{lastBehind};
 
 // Whether a word ends directly before place e.
 pub fn ends_word(text: &[u8], e: usize) -> bool

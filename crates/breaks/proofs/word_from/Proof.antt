@@ -1,14 +1,14 @@
--- `words::word_from` meets its contract: the blanks passed, and those still to pass.
+-- `breaks::word_from` meets its contract: the blanks passed, and those still to pass.
 -- Assumes nothing.
 use mathlib.Core.Path.{_≡_, refl, sym, _∙_}
 use Prim.Native.Nat.{_-_, _≤_}
 use native.Mathlib.Omega.{arith}
 use lib.ListN.{length}
 use borrow.Author.Tests.{eq-eqb, ne-eqb}
-use Rattle.words.specs.Words.{isBreak, wordFrom}
-use Rattle.words.proofs.WordLaws.{run-next, run-here, run-over}
-use Rattle.words.proofs.word_from.Statement.{statement}
-use Rattle.words.proofs.word_from.Tie as tie
+use Rattle.breaks.specs.Words.{isBreak, wordFrom}
+use Rattle.breaks.proofs.WordLaws.{run-next, run-here, run-over}
+use Rattle.breaks.proofs.word_from.Statement.{statement}
+use Rattle.breaks.proofs.word_from.Tie as tie
 
 abbrev Inv-loop : tie.InvT-loop
 Inv-loop text p b₀ b = (b ≤ length text) × (wordFrom text b ≡ wordFrom text p)

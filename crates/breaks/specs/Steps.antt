@@ -5,8 +5,8 @@ use Prim.Native.Nat.{ℕ, _+_, _-_, _<_, _≤_}
 use mathlib.Core.Bool.{true}
 use mathlib.Core.List.{List}
 use lib.ListN.{length, getD}
-use Rattle.words.specs.Words.{inWord}
-use Rattle.words.specs.Breaking.{largest}
+use Rattle.breaks.specs.Words.{inWord}
+use Rattle.breaks.specs.Breaking.{largest}
 
 -- No byte of a word alone is wider than the limit: 19 is not given.
 abbrev pub NoneWider : (ℕ → ℕ → ℕ) → ℕ → List ℕ → Type 0

@@ -1,9 +1,9 @@
--- `words::last_behind` meets its contract: the blanks passed from the text's end on.
+-- `breaks::last_behind` meets its contract: the blanks passed from the text's end on.
 -- Assumes nothing.
 use native.Mathlib.Omega.{arith}
-use Rattle.words.proofs.WordLaws.{LastUpTo, last-all, last-here, last-less, last-none}
-use Rattle.words.proofs.last_behind.Statement.{statement}
-use Rattle.words.proofs.last_behind.Tie as tie
+use Rattle.breaks.proofs.WordLaws.{LastUpTo, last-all, last-here, last-less, last-none}
+use Rattle.breaks.proofs.last_behind.Statement.{statement}
+use Rattle.breaks.proofs.last_behind.Tie as tie
 
 abbrev Inv-loop : tie.InvT-loop
 Inv-loop text e₀ e = LastUpTo text e

@@ -10,11 +10,11 @@ use lib.ListN.{length, drop, getD}
 use borrow.Author.Tests.{lt-ltb, le-ltb, le-leb, leb-true, eq-eqb, ne-eqb, not-true}
 use Rattle.ground.specs.Runs.{run}
 use Rattle.ground.proofs.Tests.{and-both, and-left, and-right, never-both}
-use Rattle.words.specs.Words.{isBreak, inWord, wordFrom, wordBehind, endsWord}
-use Rattle.words.specs.Breaking.{fits, byWords, byCharacters, spanEnd, Span, span, spansBy, spansFrom, spansOf}
-use Rattle.words.specs.Steps.{NoneWider, Grows}
-use Rattle.words.proofs.Largest.{largest-le, largest-holds, largest-max}
-use Rattle.words.proofs.WordLaws.{run-within, run-place, run-one, start-in-word, word-ends, ends-in-word, first-end}
+use Rattle.breaks.specs.Words.{isBreak, inWord, wordFrom, wordBehind, endsWord}
+use Rattle.breaks.specs.Breaking.{fits, byWords, byCharacters, spanEnd, Span, span, spansBy, spansFrom, spansOf}
+use Rattle.breaks.specs.Steps.{NoneWider, Grows}
+use Rattle.breaks.proofs.Largest.{largest-le, largest-holds, largest-max}
+use Rattle.breaks.proofs.WordLaws.{run-within, run-place, run-one, start-in-word, word-ends, ends-in-word, first-end}
 
 -- Each of a list of lines.
 abbrev pub Each : (Span → Type 0) → List Span → Type 0

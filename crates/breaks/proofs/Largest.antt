@@ -9,7 +9,7 @@ use native.Mathlib.Decide.{decLe}
 use lib.ListN.{length, getD}
 use Rattle.ground.specs.Runs.{run}
 use Rattle.ground.proofs.Tests.{never-both}
-use Rattle.words.specs.Breaking.{largest}
+use Rattle.breaks.specs.Breaking.{largest}
 
 module _ (p : ℕ → Bool) where
   pub largest-next : (n : ℕ) (t : Bool) → p (suc n) ≡ t → largest p (suc n) ≡ cond t (suc n) (largest p n)

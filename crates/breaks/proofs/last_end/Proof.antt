@@ -1,10 +1,10 @@
--- `words::last_end` meets its contract.
+-- `breaks::last_end` meets its contract.
 -- Assumes nothing.
 use mathlib.Core.Path.{sym, ap, _∙_}
 use mathlib.Core.Bool.{Bool, cond}
 use borrow.Author.Needs.{needs}
-use Rattle.words.proofs.last_end.Statement.{statement}
-use Rattle.words.proofs.last_end.Tie as tie
+use Rattle.breaks.proofs.last_end.Statement.{statement}
+use Rattle.breaks.proofs.last_end.Tie as tie
 
 ends-word-requires : tie.Need-ends-word-requires
 ends-word-requires c κs = search needs

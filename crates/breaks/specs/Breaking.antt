@@ -7,7 +7,7 @@ use mathlib.Core.List.{List, [], _∷_}
 use lib.Dec.{eqb, ltb, leb}
 use lib.ListN.{length, drop}
 use Rattle.ground.specs.Runs.{run}
-use Rattle.words.specs.Words.{inWord, wordFrom, endsWord}
+use Rattle.breaks.specs.Words.{inWord, wordFrom, endsWord}
 
 -- "The most", by trying: the largest number from 1 to n at which the test holds; 0 where there is none.
 unfoldable pub largest : (ℕ → Bool) → ℕ → ℕ
