@@ -26,6 +26,8 @@ use Rattle.records.specs.Letters.{letter, noLetter}
 use Rattle.edits.proofs.WriteLaws.{length-new}
 use Rattle.heads.specs.Pack.{Pack, says, damaged, meaning, remade}
 use Rattle.pack.specs.declared.PackAnswer.the-variants as checked
+use Rattle.ground.specs.declared.refusals.Refusal.{Refusal}
+use Rattle.pack.specs.declared.EditAnswer.the-variants as edited
 use Rattle.pack.specs.declared.EditAnswer.the-variants.{Done}
 use Rattle.pack.specs.Calls.{checkTold, letterFound, Change, changed, refused, tells, after, Changes, removal, goodLetter, hasRoom, insertion, compaction}
 use Rattle.pack.proofs.CallLaws.{removed-bytes, removed-was, free-room, put-free, tail-inside, put-tail, tail-room}
@@ -172,3 +174,8 @@ module _ (s : List ℕ) (f : Head) (rs : List (List ℕ)) (m : meaning s ≡ say
   pub room : hasRoom f (length s) width rs ≡ true → insertion (meaning s) (length s) code width rows ≡ changed (placed f width (newRecord (f .version) code width rows) rs)
   unfolding insertion
   room e = ap (λ (p : Pack). insertion p (length s) code width rows) m ∙ rw (g, a, e)
+
+-- "A refusal leaves a pack's bytes as they were lent", whatever was asked.
+pub refusal-keeps : (x : Change) (s new : List ℕ) (r : Refusal) → Changes x s (edited.Refused r) new → new ≡ s
+refusal-keeps (changed rs) s new r c = let e = c .answer in clash (cc)
+refusal-keeps (refused n) s new r c = c .bytes

@@ -17,7 +17,7 @@ use borrow.Author.Tests.{eq-eqb, ne-eqb}
 use Rattle.ground.specs.Area.{zeros}
 use Rattle.ground.specs.Text.{byte, bytes, among}
 use Rattle.ground.specs.Limits.{maxFontLength, maxControlFile, maxText, maxLineWidth, maxHeight, maxStackHeight, maxCharacters, maxCommands, minLines, minScratch, minStackedScratch, maxCharacterWidth, maxRules, maxStages}
-use Rattle.ground.specs.Refusals.{refusal, fontTooLong, noSignature, badHardblank, badParameters, tooManyCharacters, areaTooSmall, controlFileTooLong, notACommand, badRanges, extendedCommand, tooManyCommands, textTooLong, lineTooWide, badShape, stackTooHigh, characterTooWide, missingLine, badRow, badCodeTag}
+use Rattle.ground.specs.Refusals.{refusal, fontTooLong, noSignature, badHardblank, badParameters, tooManyCharacters, areaTooSmall, controlFileTooLong, notACommand, badRanges, extendedCommand, tooManyCommands, textTooLong, lineTooWide, badShape, stackTooHigh, characterTooWide, missingLine, badRow, badCodeTag, noRoom}
 use Rattle.ground.specs.Runs.{run, all, begins}
 use Rattle.ground.specs.declared.refusals.Refusal.{Refusal}
 use Rattle.ground.proofs.Tests.{clash}
@@ -128,7 +128,7 @@ use Rattle.flc.proofs.TableLaws.{Reaches}
 use Rattle.flc.proofs.MappingLaws as mapping
 use Rattle.flc.proofs.MappingLaws.{NoneFits}
 use Rattle.source.specs.Source.{Source, fontSource}
-use Rattle.drawing.specs.Drawing.{charactersOf, byteChoice, fontLine, fontCounts, lineOf, textCodes}
+use Rattle.drawing.specs.Drawing.{charactersOf, byteChoice, fontLine, fontCounts, lineOf, textCodes, directionOf, drawLined, linedAnswer, bytesOf}
 use Rattle.drawing.specs.Steps.{withCharacter}
 use Rattle.drawing.proofs.Answers as drawing
 use Rattle.drawing.proofs.DrawingLaws as drawings
@@ -158,6 +158,19 @@ use Rattle.wattleslate.proofs.MapCases as mappings
 use Rattle.wattleslate.proofs.DrawLaws as draw-calls
 use Rattle.wattleslate.proofs.RowLaws as row-calls
 use Rattle.wattleslate.proofs.Wiping as wiping
+use Rattle.font.specs.Font as font
+use Rattle.records.specs.declared.Head.{Head}
+use Rattle.records.specs.Versions.{headLength, recordHeadLength}
+use Rattle.records.specs.Records.{minusOne, hasLive}
+use Rattle.records.specs.Letters.{letter, noLetter}
+use Rattle.edits.specs.Changes as edits
+use Rattle.heads.specs.Pack as heads
+use Rattle.pack.specs.declared.EditAnswer.the-variants as edit-is
+use Rattle.pack.specs.Calls as calls
+use Rattle.pack.proofs.Outcomes as outcomes
+use Rattle.pack.proofs.Theorems as pack-laws
+use Rattle.packdrawing.specs.PackDrawing.{packLined, MadeOf}
+use Rattle.packdrawing.proofs.FontAndPack as font-pack
 
 -- ================================================================ demand 1
 
@@ -1314,3 +1327,84 @@ module _ (hardblank left right : ℕ) (left-seen : left ≡ blank → ⊥) (righ
   -- and "equality of two \"other\" bytes is still tested beside it": unequal ones are joined by no rule.
   others-that-differ : kindOf hardblank right ≡ 14 → (left ≡ right → ⊥) → 0 ≡ rulesJoining hardblank left right
   others-that-differ = pair-table.pair-apart hardblank left right left-seen right-seen
+
+-- ================================================================ document 02, Q-6
+
+-- A pack that check accepts, its bytes s, says a head and records; a change was done, and its bytes are `new`.
+module _ (s new : List ℕ) (f : Head) (rs : List (List ℕ)) (accepted : heads.meaning s ≡ heads.says f rs) where
+  abbrev Removed : ℕ → Type 0
+  Removed code = calls.Changes (calls.removal (heads.meaning s) code) s edit-is.Done new
+
+  abbrev Put : ℕ → ℕ → List ℕ → Type 0
+  Put code width rows = calls.Changes (calls.insertion (heads.meaning s) (length s) code width rows) s edit-is.Done new
+
+  abbrev Compacted : Type 0
+  Compacted = calls.Changes (calls.compaction (heads.meaning s)) s edit-is.Done new
+
+  -- "Each change leaves a pack that check accepts": it says the records as they then are.
+  remove-leaves-a-pack : (code : ℕ) → Removed code → heads.meaning new ≡ heads.says f (edits.removed code rs)
+  remove-leaves-a-pack = outcomes.remove-outcome s new f rs accepted
+
+  put-leaves-a-pack : (code width : ℕ) (rows : List ℕ) → code < 4294967296 → Put code width rows → heads.meaning new ≡ heads.says f (edits.placed f width (edits.newRecord (f .version) code width rows) rs)
+  put-leaves-a-pack = outcomes.put-outcome s new f rs accepted
+
+  -- "Compact drops free records, keeps the live ones in order."
+  compact-leaves-the-live : Compacted → heads.meaning new ≡ heads.says f (edits.kept rs)
+  compact-leaves-the-live = outcomes.compact-outcome s new f rs accepted
+
+  -- "Find after put, remove and compact (the code itself, and every other code: same width and rows)."
+  removed-is-gone : (code : ℕ) → Removed code → calls.letterFound new code ≡ noLetter
+  removed-is-gone = outcomes.remove-itself s new f rs accepted
+
+  remove-keeps-others : (code d : ℕ) → (d ≡ minusOne → ⊥) → (d ≡ code → ⊥) → Removed code → calls.letterFound new d ≡ calls.letterFound s d
+  remove-keeps-others = outcomes.remove-others s new f rs accepted
+
+  put-is-found : (code width : ℕ) (rows : List ℕ) → code < 4294967296 → (code ≡ minusOne → ⊥) → Put code width rows → calls.letterFound new code ≡ letter width rows
+  put-is-found = outcomes.put-itself s new f rs accepted
+
+  put-keeps-others : (code width : ℕ) (rows : List ℕ) → code < 4294967296 → (code ≡ minusOne → ⊥) → Put code width rows → (d : ℕ) → (d ≡ minusOne → ⊥) → (d ≡ code → ⊥) → calls.letterFound new d ≡ calls.letterFound s d
+  put-keeps-others = outcomes.put-others s new f rs accepted
+
+  compact-keeps-all : (d : ℕ) → (d ≡ minusOne → ⊥) → Compacted → calls.letterFound new d ≡ calls.letterFound s d
+  compact-keeps-all = outcomes.compact-every s new f rs accepted
+
+  -- "Remove changes only the 1 to 2."
+  remove-changes-one-byte : (code : ℕ) → Removed code → outcomes.OneByte s new f rs accepted
+  remove-changes-one-byte = outcomes.remove-one-byte s new f rs accepted
+
+  -- Put changes only the record that it writes.
+  put-writes-one-record : (code width : ℕ) (rows : List ℕ) → Put code width rows → outcomes.Written s new f rs accepted (edits.newRecord (f .version) code width rows)
+  put-writes-one-record = outcomes.put-written s new f rs accepted
+
+  -- No call changes the pack's length.
+  remove-keeps-the-length : (code : ℕ) → Removed code → length new ≡ length s
+  remove-keeps-the-length = outcomes.remove-length s new f rs accepted
+
+  put-keeps-the-length : (code width : ℕ) (rows : List ℕ) → Put code width rows → length new ≡ length s
+  put-keeps-the-length = outcomes.put-length s new f rs accepted
+
+  compact-keeps-the-length : Compacted → length new ≡ length s
+  compact-keeps-the-length = outcomes.compact-length s new f rs accepted
+
+-- "A refusal leaves a pack's bytes as they were lent", whatever change was asked.
+refusal-keeps-the-pack : (x : calls.Change) (s new : List ℕ) (r : Refusal) → calls.Changes x s (edit-is.Refused r) new → new ≡ s
+refusal-keeps-the-pack = outcomes.refusal-keeps
+
+-- "It has no room exactly when neither exists": of a good letter whose code is absent, 23 is given exactly when there is no free record of its width and the tail is too short.
+module _ (s : List ℕ) (f : Head) (rs : List (List ℕ)) (accepted : heads.meaning s ≡ heads.says f rs) (code width : ℕ) (rows : List ℕ) (good : calls.goodLetter f code width rows ≡ true) (absent : hasLive code rs ≡ false) where
+  no-room-is-23 : calls.hasRoom f (length s) width rs ≡ false → calls.insertion (heads.meaning s) (length s) code width rows ≡ calls.refused noRoom
+  no-room-is-23 = outcomes.no-room s f rs accepted code width rows good absent
+
+  room-is-taken : calls.hasRoom f (length s) width rs ≡ true → calls.insertion (heads.meaning s) (length s) code width rows ≡ calls.changed (edits.placed f width (edits.newRecord (f .version) code width rows) rs)
+  room-is-taken = outcomes.room s f rs accepted code width rows good absent
+
+-- "After it put has room whenever the record fits behind them", and only then.
+room-after-compact : (f : Head) (size width : ℕ) (rs : List (List ℕ)) → calls.hasRoom f size width (edits.kept rs) ≡ leb (headLength (f .version) + length (edits.joined (edits.kept rs)) + (recordHeadLength (f .version) + f .height * width)) size
+room-after-compact = pack-laws.compact-room
+
+-- "Drawing from a pack takes layout and direction with the call; with a font's own it equals drawing from that font": the answer and the bytes, for every control file and text and for areas of every size.
+module _ (s : List ℕ) (h : Header) (es : List Entry) (font-read : font.reading s ≡ font.says h es) (t : List ℕ) (f : Head) (rs : List (List ℕ)) (accepted : heads.meaning t ≡ heads.says f rs) (made : MadeOf s h es f rs) where
+  pack-draws-as-its-font : (scratch : ℕ) (control text : List ℕ) (room : ℕ) →
+      (linedAnswer (drawLined scratch s control text) room ≡ linedAnswer (packLined scratch t (h .layout) (directionOf (h .«print_direction»)) control text) room) ×
+      (bytesOf (drawLined scratch s control text) room ≡ bytesOf (packLined scratch t (h .layout) (directionOf (h .«print_direction»)) control text) room)
+  pack-draws-as-its-font = font-pack.font-and-pack s h es font-read t f rs accepted made
