@@ -115,6 +115,8 @@ enum wattleslate_refusal {
 #define WATTLESLATE_VERTICAL_FITTING 8192u
 #define WATTLESLATE_VERTICAL_SMUSHING 16384u /* without rules: universal */
 
+#define WATTLESLATE_MAX_LAYOUT 32767u
+
 /* Directions of a join and of drawing from a pack, as a font's Print_Direction. */
 #define WATTLESLATE_LEFT_TO_RIGHT 0u
 #define WATTLESLATE_RIGHT_TO_LEFT 1u
