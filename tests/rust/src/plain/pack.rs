@@ -47,13 +47,16 @@ pub enum Damage {
     Version,
     Height,
     Hardblank,
-    /// The first byte of a record, or bytes behind the last one.
+    /// The first byte of a record is none of 0, 1 and 2.
     Kind,
+    /// Behind a 0 not all is zero.
+    Behind,
     CutHead,
     CutRows,
-    CodeMinusOne,
-    Width,
-    RowByte,
+    /// These three "in live and free records alike": whether it is live.
+    CodeMinusOne(bool),
+    Width(bool),
+    RowByte(bool),
     RepeatedCode,
 }
 
@@ -85,22 +88,25 @@ impl Pack {
     /// The record at the end of those that were read.
     fn next(&self, pack: &[u8]) -> Result<Record, Damage> {
         let place = self.end;
-        if pack[place] != LIVE && pack[place] != FREE {
-            return Err(Damage::Kind);
-        }
+        let live = match pack[place] {
+            LIVE => true,
+            FREE => false,
+            0 => return Err(Damage::Behind),
+            _ => return Err(Damage::Kind),
+        };
         let head = pack.get(place..place + RECORD_HEAD).ok_or(Damage::CutHead)?;
         let (code, width) = (i32::from_be_bytes([head[1], head[2], head[3], head[4]]), head[5] as usize);
         if code == -1 {
-            return Err(Damage::CodeMinusOne);
+            return Err(Damage::CodeMinusOne(live));
         }
         if width > 199 {
-            return Err(Damage::Width);
+            return Err(Damage::Width(live));
         }
         let rows = pack.get(place + RECORD_HEAD..place + self.size(width)).ok_or(Damage::CutRows)?;
         if !rows.iter().all(|byte| is_row_byte(*byte, self.hardblank)) {
-            return Err(Damage::RowByte);
+            return Err(Damage::RowByte(live));
         }
-        Ok(Record { place, live: head[0] == LIVE, code, width })
+        Ok(Record { place, live, code, width })
     }
 
     pub fn live(&self) -> impl Iterator<Item = &Record> {
