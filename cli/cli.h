@@ -1,6 +1,6 @@
-/* What the parts of the command share. main.c has its words and options, stack.c puts names below one another, wrap.c draws a text in lines, pack.c has the words
- * of pack, packfile.c writes its file, letters.c takes letters out of a font, codes.c reads codes, io.c reads and writes, lines.c cuts a file into lines, header.c
- * reads the numbers of a font, refusals.c says why something was refused. */
+/* What the parts of the command share. main.c has its words and options, stack.c puts names below one another, wrap.c draws a text in lines, pack.c and
+ * packdraw.c have the words of pack, packfile.c writes its file, damage.c says what is wrong with one, letters.c takes letters out of a font, codes.c reads codes, io.c reads and writes, lines.c
+ * cuts a file into lines, header.c reads the numbers of a font, refusals.c says why something was refused. */
 #ifndef CLI_H
 #define CLI_H
 
@@ -20,7 +20,7 @@ enum { FONT, CONTROL, COLUMNS, SIZE, CODES, LAYOUT, DIRECTION, STRICT, HELP, SHO
 /* What the options want: 1,000 is WATTLESLATE_MAX_WIDTH, 65,536 WATTLESLATE_MAX_PACK, and 7 the head of a pack. */
 #define COLUMNS_WANTED "a number of columns from 0 to 1,000"
 #define SIZE_WANTED "a number of bytes from 7 to 65,536"
-#define CODES_WANTED "codes with commas between them"
+#define CODES_WANTED "codes, none of them -1, with commas between them"
 #define LAYOUT_WANTED "a Full_Layout from 0 to 32,767"
 #define DIRECTION_WANTED "a Print_Direction, 0 or 1"
 
@@ -180,6 +180,22 @@ struct letter {
 
 /* The letter of a font that is used for a code; whether there is one. The font was accepted. */
 bool font_letter(const struct files *files, int32_t code, struct letter *letter);
+
+/* A record of a pack, where its rows begin, and where it ends. */
+struct record {
+    bool live;
+    int32_t code;
+    size_t width, rows, end;
+};
+
+/* Reads the file of a pack and has the library check it; what is wrong is told. The bytes last until another pack is read. */
+enum status take_pack(struct file *pack, const char *name, uint64_t *answer);
+
+/* Takes the record at a place, where its head is whole; false behind the last one, where all is zero. */
+bool record_at(const struct file *pack, size_t at, struct record *record);
+
+/* Says what is wrong with a pack that was refused 20, and gives the status REFUSED. */
+enum status pack_damaged(const struct file *pack);
 
 /* Writes a pack into a file that is not there yet. */
 enum status new_pack(const struct file *pack);

@@ -96,7 +96,7 @@ enum status add_numbers(struct codes *codes, const char *list) {
     do {
         int32_t code;
         end = at + strcspn(at, ",");
-        if (!code_of((const uint8_t *)at, (size_t)(end - at), &code)) {
+        if (!code_of((const uint8_t *)at, (size_t)(end - at), &code) || code == -1) {
             return bad_use("-n wants " CODES_WANTED ", not ", list, "");
         }
         if (!add_code(codes, code)) {

@@ -1,5 +1,5 @@
-/* The words of pack: a font pack is made, looked at, changed and drawn from. The library decides what a pack is; the words that change one change all that they
- * are asked for or nothing. */
+/* The words of pack but draw: a font pack is made, looked at and changed. The library decides what a pack is; the words that change one change all that they are
+ * asked for or nothing. */
 #include "cli.h"
 #include <stdio.h>
 #include <string.h>
@@ -7,17 +7,7 @@
 /* The pack, with a byte more than the library takes. */
 static uint8_t area[WATTLESLATE_MAX_PACK + 1];
 
-/* A record of a pack that was accepted, and the place of the next one. */
-struct record {
-    bool live;
-    int32_t code;
-    size_t width, rows, end;
-};
-
-enum { LIVE = 1 };
-
-/* Takes the record at a place, where there is one; behind the last one all is zero. */
-static bool record_at(const struct file *pack, size_t at, struct record *record) {
+bool record_at(const struct file *pack, size_t at, struct record *record) {
     const uint8_t *head = pack->bytes + at;
     if (at == pack->length || head[0] == 0) {
         return false;
@@ -25,7 +15,7 @@ static bool record_at(const struct file *pack, size_t at, struct record *record)
     uint32_t code = (uint32_t)head[1] << 24 | (uint32_t)head[2] << 16 | (uint32_t)head[3] << 8 | head[4];
     /* The same bits, by their value: what a cast makes of a number over INT32_MAX is the compiler's affair. */
     record->code = code > INT32_MAX ? (int32_t)(code - INT32_MAX - 1) + INT32_MIN : (int32_t)code;
-    record->live = head[0] == LIVE;
+    record->live = head[0] == 1;
     record->width = head[5];
     record->rows = at + WATTLESLATE_RECORD_HEAD;
     record->end = at + WATTLESLATE_RECORD(pack->bytes[5], record->width);
@@ -35,10 +25,10 @@ static bool record_at(const struct file *pack, size_t at, struct record *record)
 /* Has the library read a pack; what is wrong with it is told. */
 static enum status check_pack(const struct file *pack, uint64_t *answer) {
     *answer = wattleslate_pack_check(pack->bytes, pack->length);
-    return wattleslate_number(*answer) == WATTLESLATE_NOT_REFUSED ? GOOD : file_refused(pack, *answer);
+    return wattleslate_number(*answer) == WATTLESLATE_NOT_REFUSED ? GOOD : pack_damaged(pack);
 }
 
-static enum status take_pack(struct file *pack, const char *name, uint64_t *answer) {
+enum status take_pack(struct file *pack, const char *name, uint64_t *answer) {
     enum status status = load(pack, name, area, sizeof area);
     return status == GOOD ? check_pack(pack, answer) : status;
 }
@@ -206,77 +196,5 @@ enum status pack_compact(const struct call *call) {
     }
     uint64_t answer = wattleslate_pack_compact(area, pack.length);
     bool refused = wattleslate_number(answer) != WATTLESLATE_NOT_REFUSED;
-    return end_change(&pack, refused ? file_refused(&pack, answer) : GOOD);
-}
-
-/* What a text is drawn by. */
-struct from_pack {
-    struct file pack, control;
-    size_t height, layout, direction;
-};
-
-/* The layout of a font as a Full_Layout: its own, else what its Old_Layout stands for. */
-static size_t own_layout(const struct file *font) {
-    int64_t value = 0;
-    if (header_number(font, FULL_LAYOUT, &value)) {
-        return (size_t)value;
-    }
-    /* A header that was accepted has it. */
-    (void)header_number(font, OLD_LAYOUT, &value);
-    return value < 0 ? WATTLESLATE_FULL_WIDTH : value == 0 ? WATTLESLATE_FITTING : WATTLESLATE_SMUSHING + (size_t)value;
-}
-
-/* Layout and direction are those of the font, where -l and -d do not say otherwise. */
-static enum status take_layout(const struct call *call, const struct file *font, struct from_pack *from) {
-    int64_t value = 0;
-    from->layout = own_layout(font);
-    from->direction = header_number(font, PRINT_DIRECTION, &value) ? (size_t)value : WATTLESLATE_LEFT_TO_RIGHT;
-    if (call->given[LAYOUT] != NULL && !number_upto(call->given[LAYOUT], WATTLESLATE_MAX_LAYOUT, &from->layout)) {
-        return bad_use("-l wants " LAYOUT_WANTED ", not ", call->given[LAYOUT], "");
-    }
-    if (call->given[DIRECTION] != NULL && !number_upto(call->given[DIRECTION], WATTLESLATE_RIGHT_TO_LEFT, &from->direction)) {
-        return bad_use("-d wants " DIRECTION_WANTED ", not ", call->given[DIRECTION], "");
-    }
-    return GOOD;
-}
-
-static enum status take_all(const struct call *call, struct from_pack *from) {
-    struct files files;
-    uint64_t answer = 0;
-    enum status status = take_files(call, &files);
-    if (status == GOOD) {
-        status = take_layout(call, &files.font, from);
-    }
-    if (status == GOOD) {
-        status = take_pack(&from->pack, call->operands[0], &answer);
-    }
-    from->control = files.control;
-    from->height = wattleslate_height(answer);
-    return status;
-}
-
-static struct drawing draw_from(const struct from_pack *from, const struct text *text) {
-    static uint8_t scratch[WATTLESLATE_SCRATCH], out[WATTLESLATE_MAX_DRAWN];
-    uint64_t answer = wattleslate_draw_pack(from->pack.bytes, from->pack.length, from->layout, from->direction, from->control.bytes, from->control.length,
-                                            text->bytes, text->length, scratch, sizeof scratch, out, sizeof out);
-    bool refused = wattleslate_number(answer) != WATTLESLATE_NOT_REFUSED;
-    return (struct drawing){answer, out, refused ? 0 : WATTLESLATE_DRAWN(from->height, wattleslate_width(answer))};
-}
-
-enum status pack_draw(const struct call *call) {
-    struct from_pack from;
-    struct text text;
-    enum step step = END;
-    struct call texts = *call;
-    enum status status = take_all(call, &from);
-    if (status != GOOD) {
-        return status;
-    }
-    texts.operands++;
-    texts.count--;
-    for (size_t number = 0; status != BAD_FILE && (step = next_text(&texts, number, &text)) == NEXT; number++) {
-        struct drawing drawing = draw_from(&from, &text);
-        status = worse(status, put_text(&text, &drawing, "pack", call->given[STRICT] != NULL));
-    }
-    return step == FAILED ? BAD_FILE : status;
+    return end_change(&pack, refused ? pack_damaged(&pack) : GOOD);
 }
