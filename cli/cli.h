@@ -1,6 +1,6 @@
 /* What the parts of the command share. main.c has its words and options, stack.c puts names below one another, wrap.c draws a text in lines, pack.c and
- * packdraw.c have the words of pack, packfile.c writes its file, damage.c says what is wrong with one, letters.c takes letters out of a font, codes.c reads codes, io.c reads and writes, lines.c
- * cuts a file into lines, header.c reads the numbers of a font, refusals.c says why something was refused. */
+ * packdraw.c have the words of pack, packfile.c writes its file, damage.c says what is wrong with one, letters.c takes letters out of a font, codes.c reads
+ * codes, io.c reads and writes, lines.c cuts a file into lines, header.c reads the numbers of a font, refusals.c says why something was refused. */
 #ifndef CLI_H
 #define CLI_H
 

@@ -2,7 +2,6 @@
  * asked for or nothing. */
 #include "cli.h"
 #include <stdio.h>
-#include <string.h>
 
 /* The pack, with a byte more than the library takes. */
 static uint8_t area[WATTLESLATE_MAX_PACK + 1];
