@@ -47,9 +47,10 @@ returns c =
     let a = c .before .before .before .before .before .before .before .before .before .before .before .before .before .before .before .before .before .before .args in
     let e = c .before .before .before .before .before .before .before .before .draw-pack .ensures in
     let l = c .before .before .before .before .before .before .before .before .before .before .before .before .layout-by .ensures in
-    let p = c .before .before .before .before .before .before .before .before .before .before .before .from-print .ensures in
-    (c .three-values .ensures ∙ ap (λ x. drawNumber (drawTells x)) (sym (c .before .before .width .given .1) ∙ e .0 .answers ∙ ap₂ (λ (y : Layout) (d : Direction). linedAnswer (packLined (length (a .scratch .now)) (a .pack .now) y d (a .control .now) (a .text .now)) (length (a .out .now))) l p),
-      (e .0 .holds ∙ ap₂ (λ (y : Layout) (d : Direction). padded (bytesOf (packLined (length (a .scratch .now)) (a .pack .now) y d (a .control .now) (a .text .now)) (length (a .out .now))) (length (a .out .now))) l p, e .1))
+    let p = c .before .before .before .before .before .before .before .before .before .before .before .from-print .ensures in (
+      c .three-values .ensures ∙ ap (λ x. drawNumber (drawTells x)) (sym (c .before .before .width .given .1) ∙ e .0 .answers ∙ ap₂ (λ (y : Layout) (d : Direction). linedAnswer (packLined (length (a .scratch .now)) (a .pack .now) y d (a .control .now) (a .text .now)) (length (a .out .now))) l p),
+      (e .0 .holds ∙ ap₂ (λ (y : Layout) (d : Direction). padded (bytesOf (packLined (length (a .scratch .now)) (a .pack .now) y d (a .control .now) (a .text .now)) (length (a .out .now))) (length (a .out .now))) l p, e .1),
+    )
 
 same-length-3 : tie.Need-same-length-3
 same-length-3 c = search needs
@@ -62,9 +63,10 @@ returns-2 c =
     let a = c .before .before .before .before .before .before .before .before .before .before .before .before .before .before .before .before .before .before .args in
     let e = c .before .before .before .before .before .before .before .before .draw-pack .ensures in
     let l = c .before .before .before .before .before .before .before .before .before .before .before .before .layout-by .ensures in
-    let p = c .before .before .before .before .before .before .before .before .before .before .before .from-print .ensures in
-    (c .refused-at .ensures ∙ ap (λ x. drawNumber (drawTells x)) (sym (c .before .before .r .given .1) ∙ e .0 .answers ∙ ap₂ (λ (y : Layout) (d : Direction). linedAnswer (packLined (length (a .scratch .now)) (a .pack .now) y d (a .control .now) (a .text .now)) (length (a .out .now))) l p),
-      (e .0 .holds ∙ ap₂ (λ (y : Layout) (d : Direction). padded (bytesOf (packLined (length (a .scratch .now)) (a .pack .now) y d (a .control .now) (a .text .now)) (length (a .out .now))) (length (a .out .now))) l p, e .1))
+    let p = c .before .before .before .before .before .before .before .before .before .before .before .from-print .ensures in (
+      c .refused-at .ensures ∙ ap (λ x. drawNumber (drawTells x)) (sym (c .before .before .r .given .1) ∙ e .0 .answers ∙ ap₂ (λ (y : Layout) (d : Direction). linedAnswer (packLined (length (a .scratch .now)) (a .pack .now) y d (a .control .now) (a .text .now)) (length (a .out .now))) l p),
+      (e .0 .holds ∙ ap₂ (λ (y : Layout) (d : Direction). padded (bytesOf (packLined (length (a .scratch .now)) (a .pack .now) y d (a .control .now) (a .text .now)) (length (a .out .now))) (length (a .out .now))) l p, e .1),
+    )
 
 pub wattleslate-draw-pack-spec : {M : Type 1} → statement M
 wattleslate-draw-pack-spec =
