@@ -7,10 +7,16 @@ use records::is_place;
 use records::record_head_length;
 use subchars::Code;
 ghost use mathlib.Core.Path.{_≡_};
-ghost use Prim.Native.Nat.{_≤_};
+ghost use mathlib.Core.List.{List};
+ghost use Prim.Native.Nat.{ℕ, _≤_};
+ghost use lib.IntN.{pos};
 ghost use lib.ListN.{length};
 ghost use Rattle.ground.specs.Limits.{maxHeight, minPackLength};
-ghost use Rattle.heads.specs.Pack.{headIn};
+ghost use Rattle.records.specs.Codes.{bitsOf};
+ghost use Rattle.records.specs.Versions.{headLength};
+ghost use Rattle.records.specs.Steps.{placeIn};
+ghost use Rattle.heads.specs.Pack.{headIn, says, meaning};
+ghost use Rattle.letters.specs.Held.{orElse, LettersHeld};
 ghost use Rattle.source.specs.Source.{Source};
 ghost use Rattle.source.specs.Counting.{StandsIn};
 ghost use Rattle.source.specs.Held.{PackGives};
@@ -49,6 +55,17 @@ fn show_letter(head: Head, pack: &[u8], place: Place, own: bool, found: &mut [us
     }
 }
 
+// The place of a code's own letter where it has one, else that of the letter with code 0.
+fn own_or_zeroth(head: Head, pack: &[u8], starts: &[usize], widths: &[usize], its: Place) -> Place
+    requires { ⌜ LettersHeld head (now pack) (now starts) (now widths) ⌝ }
+    ensures { λ r. ⌜ ((records : List (List ℕ)) → meaning (now (pack .entry)) ≡ says head records → r ≡ orElse its (placeIn head (bitsOf (pos 0)) (headLength (head .version)) records)) ⌝ }
+{
+    if is_place(its) {
+        return its;
+    }
+    letters::find_letter(head, pack, starts, widths, Code(0))
+}
+
 // The letter that a pack has for a code; where its rows start is written into a lent list.
 pub(crate) fn choose_letter(
     code: Code,
@@ -64,9 +81,6 @@ pub(crate) fn choose_letter(
 {
     let head = head_in(pack);
     let its = letters::find_letter(head, pack, starts, widths, code);
-    if is_place(its) {
-        return show_letter(head, pack, its, true, found);
-    }
-    let zeroth = letters::find_letter(head, pack, starts, widths, Code(0));
-    show_letter(head, pack, zeroth, false, found)
+    let place = own_or_zeroth(head, pack, starts, widths, its);
+    show_letter(head, pack, place, is_place(its), found)
 }
