@@ -96,20 +96,20 @@ module _ (s new : List ℕ) (f : Head) (rs : List (List ℕ)) (m : meaning s ≡
   pub remove-itself : (code : ℕ) → Changes (removal (meaning s) code) s Done new → letterFound new code ≡ noLetter
   remove-itself code x = let y = removes code x in ap (λ (l : List ℕ). letterFound l code) (y .bytes) ∙ removed-gone s f rs m code (y .legal)
 
-  pub remove-others : (code d : ℕ) → (d ≡ minusOne → ⊥) → (d ≡ code → ⊥) → Changes (removal (meaning s) code) s Done new → letterFound new d ≡ letterFound s d
-  remove-others code d n e x = ap (λ (l : List ℕ). letterFound l d) (removes code x .bytes) ∙ removed-others s f rs m code d n e
+  pub remove-others : (code d : ℕ) → (d ≡ code → ⊥) → Changes (removal (meaning s) code) s Done new → letterFound new d ≡ letterFound s d
+  remove-others code d e x = ap (λ (l : List ℕ). letterFound l d) (removes code x .bytes) ∙ removed-others s f rs m code d e
 
   -- Find after put: what was put, and every other code as before.
-  module _ (code width : ℕ) (rows : List ℕ) (c : code < 4294967296) (l : code ≡ minusOne → ⊥) (x : Changes (insertion (meaning s) (length s) code width rows) s Done new) where
+  module _ (code width : ℕ) (rows : List ℕ) (c : code < 4294967296) (x : Changes (insertion (meaning s) (length s) code width rows) s Done new) where
     pub put-itself : letterFound new code ≡ letter width rows
-    put-itself = let y = puts code width rows x in ap (λ (t : List ℕ). letterFound t code) (y .bytes) ∙ put-found s f rs m code width rows (y .letter) c (y .absent) (y .room) l
+    put-itself = let y = puts code width rows x in ap (λ (t : List ℕ). letterFound t code) (y .bytes) ∙ put-found s f rs m code width rows (y .letter) c (y .absent) (y .room)
 
-    pub put-others : (d : ℕ) → (d ≡ minusOne → ⊥) → (d ≡ code → ⊥) → letterFound new d ≡ letterFound s d
-    put-others d n e = let y = puts code width rows x in ap (λ (t : List ℕ). letterFound t d) (y .bytes) ∙ put-found-others s f rs m code width rows (y .letter) c (y .absent) (y .room) d n e
+    pub put-others : (d : ℕ) → (d ≡ code → ⊥) → letterFound new d ≡ letterFound s d
+    put-others d e = let y = puts code width rows x in ap (λ (t : List ℕ). letterFound t d) (y .bytes) ∙ put-found-others s f rs m code width rows (y .letter) c (y .absent) (y .room) d e
 
   -- Find after compact: every code as before.
-  pub compact-every : (d : ℕ) → (d ≡ minusOne → ⊥) → Changes (compaction (meaning s)) s Done new → letterFound new d ≡ letterFound s d
-  compact-every d n x = ap (λ (t : List ℕ). letterFound t d) (compacts x) ∙ compact-all s f rs m d n
+  pub compact-every : (d : ℕ) → Changes (compaction (meaning s)) s Done new → letterFound new d ≡ letterFound s d
+  compact-every d x = ap (λ (t : List ℕ). letterFound t d) (compacts x) ∙ compact-all s f rs m d
 
   -- "Remove changes only the 1 to 2": one byte.
   pub record OneByte : Type 0 where

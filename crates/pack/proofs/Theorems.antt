@@ -8,7 +8,7 @@ use native.Mathlib.Omega.{arith}
 use lib.Dec.{eqb, leb}
 use lib.ListN.{length, take, drop, length-append, length-replicate}
 use lib.Seq.{take-append-le, take-take, drop-at}
-use borrow.Author.Tests.{ne-eqb, eqb-true, eq-eqb, leb-true}
+use borrow.Author.Tests.{ne-eqb, eqb-true, eqb-false, eq-eqb, leb-true}
 use Rattle.ground.specs.Area.{zeros, padded}
 use Rattle.ground.specs.Runs.{all}
 use Rattle.ground.proofs.Tests.{and-left, and-right, and-both, not-true-false}
@@ -162,29 +162,49 @@ find-letter s f rs m code n =
     same (At p w) = refl
     same Nowhere = refl
 
+-- Code -1 has no letter.
+find-none : (s : List ℕ) (f : Head) (rs : List (List ℕ)) → meaning s ≡ says f rs → (code : ℕ) → code ≡ minusOne → letterFound s code ≡ noLetter
+unfolding letterFound findTold rowsTold locatedIn
+find-none s f rs m code e =
+    ap (λ (p : Pack). letterOf (partOf s (locatedIn p code)) (foundAt (locatedIn p code))) m ∙
+    ap (λ (b : Bool). letterOf (partOf s (cond b (located.Refused (refusal badShape 0)) (locatedAt f (placeIn f code (headLength (f .version)) rs)))) (foundAt (cond b (located.Refused (refusal badShape 0)) (locatedAt f (placeIn f code (headLength (f .version)) rs))))) (eq-eqb code minusOne e)
+
+-- Two packs with one head tell the same letter of a code where their records have the same.
+same-found : (s t : List ℕ) (f : Head) (rs qs : List (List ℕ)) → meaning s ≡ says f rs → meaning t ≡ says f qs → (d : ℕ) → letterIn f d qs ≡ letterIn f d rs → letterFound t d ≡ letterFound s d
+same-found s t f rs qs m n d e = go (eqb d minusOne) refl
+  where
+    go : (b : Bool) → eqb d minusOne ≡ b → letterFound t d ≡ letterFound s d
+    go true q = let z = eqb-true d minusOne q in find-none t f qs n d z ∙ sym (find-none s f rs m d z)
+    go false q = let z = eqb-false d minusOne q in find-letter t f qs n d z ∙ e ∙ sym (find-letter s f rs m d z)
+
 module _ (s : List ℕ) (f : Head) (rs : List (List ℕ)) (m : meaning s ≡ says f rs) where
   -- Find after remove.
   pub removed-gone : (code : ℕ) → (code ≡ minusOne → ⊥) → letterFound (remade s (removed code rs)) code ≡ noLetter
   removed-gone code n = find-letter (remade s (removed code rs)) f (removed code rs) (remove-accepted s f rs m code) code n ∙ letter-none f code (removed code rs) (has-not code rs (opens-of s f rs m .once))
 
-  pub removed-others : (code d : ℕ) → (d ≡ minusOne → ⊥) → (d ≡ code → ⊥) → letterFound (remade s (removed code rs)) d ≡ letterFound s d
-  removed-others code d n e = find-letter (remade s (removed code rs)) f (removed code rs) (remove-accepted s f rs m code) d n ∙ letter-removed f d code e rs ∙ sym (find-letter s f rs m d n)
+  pub removed-others : (code d : ℕ) → (d ≡ code → ⊥) → letterFound (remade s (removed code rs)) d ≡ letterFound s d
+  removed-others code d e = same-found s (remade s (removed code rs)) f rs (removed code rs) m (remove-accepted s f rs m code) d (letter-removed f d code e rs)
 
   -- Find after compact.
-  pub compact-all : (d : ℕ) → (d ≡ minusOne → ⊥) → letterFound (remade s (kept rs)) d ≡ letterFound s d
-  compact-all d n = find-letter (remade s (kept rs)) f (kept rs) (compact-accepted s f rs m) d n ∙ letter-kept f d rs ∙ sym (find-letter s f rs m d n)
+  pub compact-all : (d : ℕ) → letterFound (remade s (kept rs)) d ≡ letterFound s d
+  compact-all d = same-found s (remade s (kept rs)) f rs (kept rs) m (compact-accepted s f rs m) d (letter-kept f d rs)
 
   -- Find after put.
   module _ (code width : ℕ) (rows : List ℕ) (g : goodLetter f code width rows ≡ true) (c : code < 4294967296) (a : hasLive code rs ≡ false) (r : hasRoom f (length s) width rs ≡ true) where
-    pub put-found : (code ≡ minusOne → ⊥) → letterFound (remade s (placed f width (newRecord (f .version) code width rows) rs)) code ≡ letter width rows
-    put-found n =
-        find-letter (remade s (placed f width (newRecord (f .version) code width rows) rs)) f (placed f width (newRecord (f .version) code width rows) rs) (put-accepted s f rs m code width rows g c a r) code n ∙
+    pub put-found : letterFound (remade s (placed f width (newRecord (f .version) code width rows) rs)) code ≡ letter width rows
+    put-found =
+        find-letter (remade s (placed f width (newRecord (f .version) code width rows) rs)) f (placed f width (newRecord (f .version) code width rows) rs) (put-accepted s f rs m code width rows g c a r) code
+        (eqb-false code minusOne (not-true (eqb code minusOne) (no-none s f rs m code width rows g c a r))) ∙
         put-itself s f rs m code width rows g c a r
+      where
+        not-true : (b : Bool) → not b ≡ true → b ≡ false
+        not-true true e = sym e
+        not-true false e = refl
 
-    pub put-found-others : (d : ℕ) → (d ≡ minusOne → ⊥) → (d ≡ code → ⊥) → letterFound (remade s (placed f width (newRecord (f .version) code width rows) rs)) d ≡ letterFound s d
-    put-found-others d n e =
-        find-letter (remade s (placed f width (newRecord (f .version) code width rows) rs)) f (placed f width (newRecord (f .version) code width rows) rs) (put-accepted s f rs m code width rows g c a r) d n ∙
-        put-others s f rs m code width rows g c a r d e ∙ sym (find-letter s f rs m d n)
+    pub put-found-others : (d : ℕ) → (d ≡ code → ⊥) → letterFound (remade s (placed f width (newRecord (f .version) code width rows) rs)) d ≡ letterFound s d
+    put-found-others d e =
+        same-found s (remade s (placed f width (newRecord (f .version) code width rows) rs)) f rs (placed f width (newRecord (f .version) code width rows) rs) m (put-accepted s f rs m code width rows g c a r) d
+        (put-others s f rs m code width rows g c a r d e)
 
 -- "After it put has room whenever the record fits behind them", and only then.
 pub compact-room : (f : Head) (size width : ℕ) (rs : List (List ℕ)) → hasRoom f size width (kept rs) ≡ leb (headLength (f .version) + length (joined (kept rs)) + (recordHeadLength (f .version) + f .height * width)) size

@@ -1356,16 +1356,16 @@ module _ (s new : List ℕ) (f : Head) (rs : List (List ℕ)) (accepted : heads.
   removed-is-gone : (code : ℕ) → Removed code → calls.letterFound new code ≡ noLetter
   removed-is-gone = outcomes.remove-itself s new f rs accepted
 
-  remove-keeps-others : (code d : ℕ) → (d ≡ minusOne → ⊥) → (d ≡ code → ⊥) → Removed code → calls.letterFound new d ≡ calls.letterFound s d
+  remove-keeps-others : (code d : ℕ) → (d ≡ code → ⊥) → Removed code → calls.letterFound new d ≡ calls.letterFound s d
   remove-keeps-others = outcomes.remove-others s new f rs accepted
 
-  put-is-found : (code width : ℕ) (rows : List ℕ) → code < 4294967296 → (code ≡ minusOne → ⊥) → Put code width rows → calls.letterFound new code ≡ letter width rows
+  put-is-found : (code width : ℕ) (rows : List ℕ) → code < 4294967296 → Put code width rows → calls.letterFound new code ≡ letter width rows
   put-is-found = outcomes.put-itself s new f rs accepted
 
-  put-keeps-others : (code width : ℕ) (rows : List ℕ) → code < 4294967296 → (code ≡ minusOne → ⊥) → Put code width rows → (d : ℕ) → (d ≡ minusOne → ⊥) → (d ≡ code → ⊥) → calls.letterFound new d ≡ calls.letterFound s d
+  put-keeps-others : (code width : ℕ) (rows : List ℕ) → code < 4294967296 → Put code width rows → (d : ℕ) → (d ≡ code → ⊥) → calls.letterFound new d ≡ calls.letterFound s d
   put-keeps-others = outcomes.put-others s new f rs accepted
 
-  compact-keeps-all : (d : ℕ) → (d ≡ minusOne → ⊥) → Compacted → calls.letterFound new d ≡ calls.letterFound s d
+  compact-keeps-all : (d : ℕ) → Compacted → calls.letterFound new d ≡ calls.letterFound s d
   compact-keeps-all = outcomes.compact-every s new f rs accepted
 
   -- "Remove changes only the 1 to 2."
