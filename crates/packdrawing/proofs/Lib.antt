@@ -1,3 +1,4 @@
 -- The laws of drawing from a pack.
 pub mod PackCases
 pub mod FontAndPack
+pub mod Answers

@@ -46,6 +46,7 @@ fn draw_held(
     let mut lasts = [0i32; limits::MAX_COMMANDS];
     let mut news = [0i32; limits::MAX_COMMANDS];
     match flc::read_lists(file, &mut stages, &mut firsts, &mut lasts, &mut news) {
+        // A pack has no list of codes and no list of places: `firsts` and `stages`, which nothing reads, are lent in their stead.
         ControlAnswer::Read {
             commands,
             stages: _,
