@@ -1,18 +1,6 @@
 /* The numbers in the header of a font, as 01 reads them: the library tells Height alone. */
 #include "cli.h"
 
-bool is_gap(uint8_t byte) {
-    return byte == ' ' || byte == '\t';
-}
-
-/* Where the word at a place ends: at a blank, a tab, or the end of the line. */
-static size_t word_end(const struct file *font, size_t at) {
-    while (at < font->length && !is_gap(font->bytes[at]) && font->bytes[at] != '\n' && font->bytes[at] != '\r') {
-        at++;
-    }
-    return at;
-}
-
 /* "A number is an optional minus and 1 to 10 decimal digits within signed 32 bits." */
 static bool number_of(const uint8_t *word, size_t length, int64_t *value) {
     size_t first = length > 0 && word[0] == '-' ? 1 : 0;
@@ -33,9 +21,7 @@ static bool number_of(const uint8_t *word, size_t length, int64_t *value) {
 bool header_number(const struct file *font, enum parameter parameter, int64_t *value) {
     size_t at = 6, end;
     for (int word = 0; word <= (int)parameter; word++) {
-        while (at < font->length && is_gap(font->bytes[at])) {
-            at++;
-        }
+        at = gap_end(font, at);
         end = word_end(font, at);
         if (!number_of(font->bytes + at, end - at, value)) {
             return false;

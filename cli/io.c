@@ -7,7 +7,7 @@
 #include <sys/ioctl.h>
 #include <unistd.h>
 
-static enum status io_failed(const char *name, const char *what) {
+enum status io_failed(const char *name, const char *what) {
     const char *why = strerror(errno);
     show_string(name);
     fprintf(stderr, ": cannot be %s: %s\n", what, why);

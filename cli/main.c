@@ -8,42 +8,57 @@
 #define VERSION "1.0"
 
 /* The words, each a bit, so that an option can name those that it belongs to. */
-enum { DRAW = 1, STACK = 2, CHECK = 4, EVERY_WORD = ~0 };
-
-/* The options. What was given for each stands in a call: the value, or the option itself where it takes none; NULL if it was not given. */
-enum { FONT, CONTROL, COLUMNS, STRICT, HELP, SHOW_VERSION, OPTIONS_COUNT };
-
-/* What the command line asks for. */
-struct call {
-    const char *given[OPTIONS_COUNT];
-    char **operands;
-    size_t count;
-};
+enum { DRAW = 1, STACK = 2, CHECK = 4, NEW = 8, LIST = 16, PUT = 32, REMOVE = 64, COMPACT = 128, FROM_PACK = 256, PACK = 512, EVERY_WORD = ~0 };
 
 static enum status draw(const struct call *call);
 static enum status stack(const struct call *call);
 static enum status check(const struct call *call);
+static enum status pack(const struct call *call);
+
+/* As many operands as there are. */
+#define ANY_NUMBER SIZE_MAX
 
 struct word {
-    const char *name;
+    const char *name; /* two arguments where it has a blank */
     int bit;
-    size_t least;      /* operands that it needs */
-    const char *wants; /* what they are */
+    size_t least, most; /* operands that it takes */
+    const char *wants;  /* what they are */
     enum status (*run)(const struct call *call);
     const char *help;
 };
 
-/* The first word is meant where none is given. */
+#define PACK_WORDS "new, list, put, remove, compact or draw"
+
+/* The first word is meant where none is given. Of two that both fit the longer one stands first. */
 static const struct word WORDS[] = {
-    {"draw", DRAW, 0, "nothing", draw,
+    {"draw", DRAW, 0, ANY_NUMBER, "nothing", draw,
      "  wattleslate [draw] [-f FONT] [-c CONTROL] [-w COLUMNS] [--strict] [NAME...]\n"
      "      draws each NAME, or without a NAME each line of standard input, and tells of bytes that are not in the font\n"},
-    {"stack", STACK, 0, "nothing", stack,
+    {"stack", STACK, 0, ANY_NUMBER, "nothing", stack,
      "  wattleslate stack [-f FONT] [-c CONTROL] [NAME...]\n"
      "      draws the NAMEs, or the lines of standard input, below one another, closed up as the font says\n"},
-    {"check", CHECK, 1, "a FONT or a CONTROL", check,
+    {"check", CHECK, 1, ANY_NUMBER, "a FONT or a CONTROL", check,
      "  wattleslate check FONT|CONTROL...\n"
      "      reads fonts and control files, and says what is wrong with them\n"},
+    {"pack new", NEW, 1, 1, "a PACK", pack_new,
+     "  wattleslate pack new [-f FONT] [-s BYTES] PACK\n"
+     "      makes an empty font pack for letters of the font\n"},
+    {"pack list", LIST, 1, 1, "a PACK", pack_list,
+     "  wattleslate pack list PACK\n"
+     "      says how full a pack is, and shows its letters\n"},
+    {"pack put", PUT, 1, ANY_NUMBER, "a PACK", pack_put,
+     "  wattleslate pack put [-f FONT] [-n CODES] PACK [LETTER...]\n"
+     "      puts letters of the font into a pack, all of them or none\n"},
+    {"pack remove", REMOVE, 1, ANY_NUMBER, "a PACK", pack_remove,
+     "  wattleslate pack remove [-n CODES] PACK [LETTER...]\n"
+     "      removes letters from a pack, all of them or none\n"},
+    {"pack compact", COMPACT, 1, 1, "a PACK", pack_compact,
+     "  wattleslate pack compact PACK\n"
+     "      gives the room of letters that were removed to letters of any width\n"},
+    {"pack draw", FROM_PACK, 1, ANY_NUMBER, "a PACK", pack_draw,
+     "  wattleslate pack draw [-f FONT] [-l LAYOUT] [-d DIRECTION] [-c CONTROL] [--strict] PACK [NAME...]\n"
+     "      draws each NAME, or each line of standard input, with the letters of a pack, in one line\n"},
+    {"pack", PACK, 1, ANY_NUMBER, PACK_WORDS, pack, ""},
 };
 
 struct option {
@@ -54,15 +69,18 @@ struct option {
     const char *help;
 };
 
-/* What -w wants: 1,000 is WATTLESLATE_MAX_WIDTH. */
-#define COLUMNS_WANTED "a number of columns from 0 to 1,000"
-
 static const struct option OPTIONS[] = {
-    {"-f", "a FONT", DRAW | STACK, FONT, "  -f FONT     draw with this FIGfont, and not with the built-in one\n"},
-    {"-c", "a CONTROL", DRAW | STACK, CONTROL, "  -c CONTROL  map the characters by this control file first\n"},
+    {"-f", "a FONT", DRAW | STACK | NEW | PUT | FROM_PACK, FONT,
+     "  -f FONT     take this FIGfont, and not the built-in one; pack draw takes layout and direction from it\n"},
+    {"-c", "a CONTROL", DRAW | STACK | FROM_PACK, CONTROL, "  -c CONTROL  map the characters by this control file first\n"},
     {"-w", COLUMNS_WANTED, DRAW, COLUMNS,
      "  -w COLUMNS  break a text at blanks into lines of at most COLUMNS; 0 breaks none. Without it a terminal's width is taken\n"},
-    {"--strict", NULL, DRAW, STRICT, "  --strict    end with status 1 where a byte is not in the font\n"},
+    {"-s", SIZE_WANTED, NEW, SIZE, "  -s BYTES    make the pack so long, 7 to 65,536 bytes; without it 65,536\n"},
+    {"-n", CODES_WANTED, PUT | REMOVE, CODES,
+     "  -n CODES    letters by their codes, with commas between them, each as a font's tag writes it: 0x41, 0101, 65, -2\n"},
+    {"-l", LAYOUT_WANTED, FROM_PACK, LAYOUT, "  -l LAYOUT   this Full_Layout, 0 to 32,767, and not the font's\n"},
+    {"-d", DIRECTION_WANTED, FROM_PACK, DIRECTION, "  -d DIRECTION\n              this Print_Direction, 0 or 1, and not the font's\n"},
+    {"--strict", NULL, DRAW | FROM_PACK, STRICT, "  --strict    end with status 1 where a byte is not in the font or the pack\n"},
     {"-h", NULL, EVERY_WORD, HELP, ""},
     {"--help", NULL, EVERY_WORD, HELP, "  --help, -h  print this help\n"},
     {"--version", NULL, EVERY_WORD, SHOW_VERSION, "  --version   print the version\n"},
@@ -72,16 +90,12 @@ static const char MORE_HELP[] =
     "  --          what follows is no option\n"
     "\n"
     "Each byte of a NAME is one character, 128 to 255 by ISO 8859-1. A first NAME that is a word stands behind `draw`.\n"
+    "A LETTER is one character or several, each of which is meant, in UTF-8: 1 is the character 1, with code 49.\n"
     "Exit status: 0; 1 something was refused, or by --strict not in the font; 2 bad use; 3 a file cannot be read or written.\n";
 
 #define COUNT(table) (sizeof(table) / sizeof *(table))
 
-static enum status worse(enum status one, enum status other) {
-    return one > other ? one : other;
-}
-
-/* Says what is wrong with the command line, in three parts, each of which may be a word of it. */
-static enum status bad_use(const char *first, const char *second, const char *third) {
+enum status bad_use(const char *first, const char *second, const char *third) {
     fputs("wattleslate: ", stderr);
     show_string(first);
     show_string(second);
@@ -90,9 +104,7 @@ static enum status bad_use(const char *first, const char *second, const char *th
     return BAD_USE;
 }
 
-/* Loads the font and the control file that were asked for and has the library read them. What is wrong with either is said once, not for each
- * name. */
-static enum status take_files(const struct call *call, struct files *files) {
+enum status take_files(const struct call *call, struct files *files) {
     static uint8_t font_area[WATTLESLATE_MAX_FONT + 1], control_area[WATTLESLATE_MAX_CONTROL + 1];
     enum status status = GOOD;
     files->font = (struct file){"built-in font", built_in_font, built_in_font_length};
@@ -134,15 +146,21 @@ static enum status put_drawing(const struct text *text, const struct drawing *dr
     return put(drawing->rows, drawing->length);
 }
 
-/* Says how many bytes of a text are not in the font; whether there are any. */
-static bool tell_missing(const struct text *text, uint64_t answer) {
+/* Says how many bytes of a text are not in the font or the pack; whether there are any. */
+static bool tell_missing(const struct text *text, uint64_t answer, const char *source) {
     unsigned replaced = wattleslate_stood_in(answer), left_out = wattleslate_nothing_drawn(answer), missing = replaced + left_out;
     if (missing == 0) {
         return false;
     }
     show_text(text);
-    fprintf(stderr, ": %u %s not in the font: %u replaced, %u left out\n", missing, missing == 1 ? "byte is" : "bytes are", replaced, left_out);
+    fprintf(stderr, ": %u %s not in the %s: %u replaced, %u left out\n", missing, missing == 1 ? "byte is" : "bytes are", source, replaced, left_out);
     return true;
+}
+
+/* The rows come first, then what is said of them: where they cannot be written, that alone is told. */
+enum status put_text(const struct text *text, const struct drawing *drawing, const char *source, bool strict) {
+    enum status status = put_drawing(text, drawing);
+    return status == GOOD && tell_missing(text, drawing->answer, source) && strict ? REFUSED : status;
 }
 
 /* How many columns a line may have, 0 for any number, and whether -w says so. */
@@ -161,15 +179,7 @@ static struct drawing draw_within(const struct files *files, const struct text *
     return too_wide && !limit->asked ? draw_line(files, text) : drawing;
 }
 
-/* The rows come first, then what is said of them: where they cannot be written, that alone is told. */
-static enum status draw_text(const struct files *files, const struct text *text, const struct limit *limit, bool strict) {
-    struct drawing drawing = draw_within(files, text, limit);
-    enum status status = put_drawing(text, &drawing);
-    return status == GOOD && tell_missing(text, drawing.answer) && strict ? REFUSED : status;
-}
-
-/* The text with that number, counted from 0: of the operands, or without one of the lines of standard input. */
-static enum step next_text(const struct call *call, size_t number, struct text *text) {
+enum step next_text(const struct call *call, size_t number, struct text *text) {
     if (call->count == 0) {
         return next_line(text);
     }
@@ -180,19 +190,22 @@ static enum step next_text(const struct call *call, size_t number, struct text *
     return NEXT;
 }
 
-/* Reads a number of columns, which is decimal digits. */
-static bool columns_of(const char *digits, size_t *columns) {
-    *columns = 0;
+bool number_upto(const char *digits, size_t most, size_t *value) {
+    size_t number = 0;
     for (const char *at = digits; *at != '\0'; at++) {
         if (*at < '0' || *at > '9') {
             return false;
         }
-        *columns = *columns * 10 + (size_t)(*at - '0');
-        if (*columns > WATTLESLATE_MAX_WIDTH) {
+        number = number * 10 + (size_t)(*at - '0');
+        if (number > most) {
             return false;
         }
     }
-    return digits[0] != '\0';
+    if (digits[0] == '\0') {
+        return false;
+    }
+    *value = number;
+    return true;
 }
 
 /* The limit that -w gives, else that of the terminal. */
@@ -201,7 +214,7 @@ static enum status take_limit(const struct call *call, struct limit *limit) {
     *limit = (struct limit){0, given != NULL};
     if (given == NULL) {
         limit->columns = output_columns();
-    } else if (!columns_of(given, &limit->columns)) {
+    } else if (!number_upto(given, WATTLESLATE_MAX_WIDTH, &limit->columns)) {
         return bad_use("-w wants " COLUMNS_WANTED ", not ", given, "");
     }
     return GOOD;
@@ -220,7 +233,8 @@ static enum status draw(const struct call *call) {
         return status;
     }
     for (size_t number = 0; status != BAD_FILE && (step = next_text(call, number, &text)) == NEXT; number++) {
-        status = worse(status, draw_text(&files, &text, &limit, call->given[STRICT] != NULL));
+        struct drawing drawing = draw_within(&files, &text, &limit);
+        status = worse(status, put_text(&text, &drawing, "font", call->given[STRICT] != NULL));
     }
     return step == FAILED ? BAD_FILE : status;
 }
@@ -294,6 +308,10 @@ static enum status check(const struct call *call) {
         status = worse(status, check_file(call->operands[i]));
     }
     return status;
+}
+
+static enum status pack(const struct call *call) {
+    return bad_use("pack wants " PACK_WORDS ", not ", call->operands[0], "");
 }
 
 static enum status help(void) {
@@ -374,17 +392,35 @@ static enum status take_arguments(const struct word *word, char **arguments, str
     return GOOD;
 }
 
-static enum status run(char **arguments) {
-    const struct word *word = &WORDS[0];
-    struct call call;
-    for (size_t i = 0; i < COUNT(WORDS) && arguments[0] != NULL; i++) {
-        if (strcmp(arguments[0], WORDS[i].name) == 0) {
-            word = &WORDS[i];
-            arguments++;
-            break;
+/* How many of some arguments are a word: one or two, or none where they are another one. */
+static size_t named_by(const struct word *word, char **arguments) {
+    size_t first = strcspn(word->name, " ");
+    const char *second = word->name[first] == ' ' ? word->name + first + 1 : NULL;
+    if (arguments[0] == NULL || strlen(arguments[0]) != first || strncmp(arguments[0], word->name, first) != 0) {
+        return 0;
+    }
+    if (second == NULL) {
+        return 1;
+    }
+    return arguments[1] != NULL && strcmp(arguments[1], second) == 0 ? 2 : 0;
+}
+
+/* The word that some arguments begin with, and how many of them it is. */
+static const struct word *word_of(char **arguments, size_t *used) {
+    for (size_t i = 0; i < COUNT(WORDS); i++) {
+        *used = named_by(&WORDS[i], arguments);
+        if (*used > 0) {
+            return &WORDS[i];
         }
     }
-    enum status status = take_arguments(word, arguments, &call);
+    return &WORDS[0];
+}
+
+static enum status run(char **arguments) {
+    struct call call;
+    size_t used;
+    const struct word *word = word_of(arguments, &used);
+    enum status status = take_arguments(word, arguments + used, &call);
     if (status != GOOD) {
         return status;
     }
@@ -397,14 +433,18 @@ static enum status run(char **arguments) {
     if (call.count < word->least) {
         return bad_use(word->name, " wants ", word->wants);
     }
+    if (call.count > word->most) {
+        return bad_use(word->name, " takes nothing behind its PACK, not ", call.operands[word->most]);
+    }
     return word->run(&call);
 }
 
 int main(int count, char **arguments) {
     /* A message is one write, a line. */
     (void)setvbuf(stderr, NULL, _IOLBF, BUFSIZ);
-    /* A pipe that nobody reads is told as any other output that cannot be written. */
+    /* A pipe that nobody reads and a file that may not grow are told as any other output that cannot be written. */
     (void)signal(SIGPIPE, SIG_IGN);
+    (void)signal(SIGXFSZ, SIG_IGN);
     enum status status = run(count > 0 ? arguments + 1 : arguments);
     return (int)worse(status, close_output());
 }

@@ -26,9 +26,13 @@ static const struct refusal REFUSALS[] = {
     [WATTLESLATE_TOO_MANY_COMMANDS]   = {true,  "a 257th command or a 65th stage"},
     [WATTLESLATE_TEXT_TOO_LONG]       = {false, "the text is longer than 1,024 bytes"},
     [WATTLESLATE_LINE_TOO_WIDE]       = {false, "the drawn line is wider than 1,000 columns"},
-    [WATTLESLATE_BAD_SHAPE]           = {false, "a join or a stack of bad shape"},
+    [WATTLESLATE_BAD_SHAPE]           = {false, "a request of bad shape"},
     [WATTLESLATE_STACK_TOO_HIGH]      = {false, "the stack is higher than 64 rows"},
     [WATTLESLATE_CHARACTER_TOO_WIDE]  = {true,  "a character is wider than the limit; a larger -w draws it, and -w 0 never wraps"},
+    [WATTLESLATE_DAMAGED_PACK]        = {false, "the pack is damaged"},
+    [WATTLESLATE_CODE_PRESENT]        = {false, "it is in the pack already"},
+    [WATTLESLATE_CODE_ABSENT]         = {false, "it is not in the pack"},
+    [WATTLESLATE_NO_ROOM]             = {false, "no free record has its width, and behind the last record there is too little room"},
 };
 /* clang-format on */
 
@@ -36,21 +40,6 @@ static struct refusal refusal_of(uint64_t answer) {
     size_t number = (size_t)wattleslate_number(answer);
     bool known = number < sizeof REFUSALS / sizeof *REFUSALS && REFUSALS[number].sentence != NULL;
     return known ? REFUSALS[number] : (struct refusal){true, "refused"};
-}
-
-/* The end of the line that starts at a place: an LF, a CR, or the end of the file. */
-static size_t line_end(const struct file *file, size_t at) {
-    while (at < file->length && file->bytes[at] != '\n' && file->bytes[at] != '\r') {
-        at++;
-    }
-    return at;
-}
-
-/* The start of the line behind: LF, CR and CR LF each end one. */
-static size_t line_after(const struct file *file, size_t at) {
-    size_t end = line_end(file, at);
-    bool both = end + 1 < file->length && file->bytes[end] == '\r' && file->bytes[end + 1] == '\n';
-    return end + (both ? 2 : 1);
 }
 
 /* The number of the line that a place is in, counted from 1; of the last line for the place behind it, and 0 for an empty file. */
@@ -62,19 +51,10 @@ static size_t line_of(const struct file *file, size_t place) {
     return line;
 }
 
-/* The end of a row line without the blanks and tabs at its end, which are dropped first. */
-static size_t row_line_end(const struct file *font, size_t start) {
-    size_t end = line_end(font, start);
-    while (end > start && is_gap(font->bytes[end - 1])) {
-        end--;
-    }
-    return end;
-}
-
 /* Which of the five reasons of refusal 6 the line at a place gives, with the column of the first byte at fault where there is one. The last reason
  * is the one that is left when none of the others is there. The header of the font was accepted. */
 static const char *row_fault(const struct file *font, size_t start, size_t *column) {
-    size_t end = row_line_end(font, start), behind = end, most;
+    size_t end = row_line_end(font, start), behind = row_end(font, start), most;
     int64_t max_length = 0;
     /* A header that was accepted has it. */
     (void)header_number(font, MAX_LENGTH, &max_length);
@@ -88,9 +68,6 @@ static const char *row_fault(const struct file *font, size_t start, size_t *colu
     if (end - start > most) {
         *column = most + 1;
         return "a row is longer than Max_Length with its endmarks";
-    }
-    while (behind > start && font->bytes[behind - 1] == font->bytes[end - 1]) {
-        behind--;
     }
     for (size_t at = start; at < behind; at++) {
         if (font->bytes[at] < 32 && font->bytes[at] != font->bytes[5]) {
@@ -120,6 +97,14 @@ enum status file_refused(const struct file *file, uint64_t answer) {
         fprintf(stderr, " at byte %zu", place);
     }
     fputs(")\n", stderr);
+    return REFUSED;
+}
+
+enum status letter_refused(const struct file *pack, int32_t code, uint64_t answer) {
+    char name[CODE_NAME];
+    name_code(code, name);
+    show_string(pack->name);
+    fprintf(stderr, ": code %s: %s (refusal %d)\n", name, refusal_of(answer).sentence, (int)wattleslate_number(answer));
     return REFUSED;
 }
 

@@ -5,7 +5,8 @@
  * that is lent for writing lies in no other one that the same call is given. No call allocates, keeps a pointer, or uses anything outside of its arguments.
  *
  * The answer has the refusal's number in its upper 16 bits, 0 if it is not refused. Below it stands the refusal's place, 48 bits, or up to three values of 16 bits:
- * a * 2^32 + b * 2^16 + c. The functions at the end take an answer apart. After a refusal every area that was lent for writing is all zeros.
+ * a * 2^32 + b * 2^16 + c. The functions at the end take an answer apart. After a refusal every area that was lent for writing is all zeros, but a pack, whose bytes stay
+ * as they were lent.
  *
  *     Call                        a               b          c
  *     wattleslate_check_font      0               height     characters
@@ -15,6 +16,12 @@
  *     wattleslate_join            0               overlap    width
  *     wattleslate_stack           overlap         height     width
  *     wattleslate_draw_stacked    overlap         height     width
+ *     wattleslate_pack_check      0               height     live records
+ *     wattleslate_pack_find       a * 2^16 + b: the place of the rows   width
+ *     wattleslate_pack_put        0               0          0
+ *     wattleslate_pack_remove     0               0          0
+ *     wattleslate_pack_compact    0               0          0
+ *     wattleslate_draw_pack       nothing drawn   stood in   width
  */
 #ifndef WATTLESLATE_H
 #define WATTLESLATE_H
@@ -37,6 +44,7 @@ extern "C" {
 #define WATTLESLATE_MAX_CHARACTERS 512u
 #define WATTLESLATE_MAX_COMMANDS 256u
 #define WATTLESLATE_MAX_STAGES 64u
+#define WATTLESLATE_MAX_PACK 65536u
 
 /* The scratch that drawing is lent has this many bytes or more, in one line or wrapped. */
 #define WATTLESLATE_SCRATCH 32000u
@@ -59,6 +67,16 @@ extern "C" {
 #define WATTLESLATE_WRAPPED(height, text_len) ((size_t)(text_len) * WATTLESLATE_DRAWN(height, WATTLESLATE_MAX_CHARACTER_WIDTH))
 #define WATTLESLATE_MAX_WRAPPED WATTLESLATE_WRAPPED(WATTLESLATE_MAX_HEIGHT, WATTLESLATE_MAX_TEXT)
 
+/* A pack is a lent area of at most WATTLESLATE_MAX_PACK bytes: a head, then records one behind the other, then zeros to its end. The head is the mark CFP, the
+ * version 1 in two bytes, high first, the height, 1 to 32, and the hardblank, which is no blank, CR, LF or NUL. A record is one byte, 1 for live or 2 for free, the
+ * code in four bytes, high first, the width, 0 to 199, and the rows one after another, height times width bytes. No code is -1, no two live records have the same
+ * code, and no byte of a row is under 32 but the hardblank. All else is damaged. The caller writes an empty pack: wattleslate_empty_pack. */
+#define WATTLESLATE_PACK_HEAD 7u
+#define WATTLESLATE_RECORD_HEAD 6u
+
+/* The bytes of a record of a letter that is so many columns wide, in a pack of that height. */
+#define WATTLESLATE_RECORD(height, width) (WATTLESLATE_RECORD_HEAD + (size_t)(height) * (size_t)(width))
+
 /* The refusal numbers, and what the place is: 0 where nothing is said. */
 enum wattleslate_refusal {
     WATTLESLATE_NOT_REFUSED = 0,
@@ -78,12 +96,16 @@ enum wattleslate_refusal {
     WATTLESLATE_TOO_MANY_COMMANDS = 14,  /* a 257th command or 65th stage; place: the start of that line */
     WATTLESLATE_TEXT_TOO_LONG = 15,
     WATTLESLATE_LINE_TOO_WIDE = 16,
-    WATTLESLATE_BAD_SHAPE = 17,          /* a join or a stack of bad shape, or a limit outside 1 to 1,000 */
+    WATTLESLATE_BAD_SHAPE = 17,          /* a join, a stack or a letter of bad shape, a limit outside 1 to 1,000, code -1 in a pack, or a layout that no font has */
     WATTLESLATE_STACK_TOO_HIGH = 18,     /* over 64 rows */
-    WATTLESLATE_CHARACTER_TOO_WIDE = 19  /* wider than the limit; place: that of its byte in the text */
+    WATTLESLATE_CHARACTER_TOO_WIDE = 19, /* wider than the limit; place: that of its byte in the text */
+    WATTLESLATE_DAMAGED_PACK = 20,
+    WATTLESLATE_CODE_PRESENT = 21,
+    WATTLESLATE_CODE_ABSENT = 22,
+    WATTLESLATE_NO_ROOM = 23             /* no free record of that width, and too few bytes behind the last record */
 };
 
-/* Layouts of a join, as a font's Full_Layout: one of these, or SMUSHING plus rules 1 to 63. Any number up to 32,767 means what it means there. */
+/* Layouts of a join and of drawing from a pack, as a font's Full_Layout: one of these, or SMUSHING plus rules 1 to 63. Any number up to 32,767 means what it means there. */
 #define WATTLESLATE_FULL_WIDTH 0u
 #define WATTLESLATE_FITTING 64u
 #define WATTLESLATE_SMUSHING 128u /* without rules: universal */
@@ -93,7 +115,9 @@ enum wattleslate_refusal {
 #define WATTLESLATE_VERTICAL_FITTING 8192u
 #define WATTLESLATE_VERTICAL_SMUSHING 16384u /* without rules: universal */
 
-/* Directions of a join, as a font's Print_Direction. */
+#define WATTLESLATE_MAX_LAYOUT 32767u
+
+/* Directions of a join and of drawing from a pack, as a font's Print_Direction. */
 #define WATTLESLATE_LEFT_TO_RIGHT 0u
 #define WATTLESLATE_RIGHT_TO_LEFT 1u
 
@@ -148,6 +172,44 @@ uint64_t wattleslate_draw_stacked(const uint8_t *font, size_t font_len, const ui
                                   size_t upper_len, const uint8_t *lower, size_t lower_len, uint8_t *scratch, size_t scratch_len,
                                   uint8_t *out, size_t out_len);
 
+/* Reads a pack. Refusal 20. Values: wattleslate_height and wattleslate_live. */
+uint64_t wattleslate_pack_check(const uint8_t *pack, size_t pack_len);
+
+/* Finds the live record of a code. Its rows are a part of the pack: height times width bytes from a place on, which is that of the pack's end where the last letter
+ * has width 0. No other code stands in. Refusals: 20, 17 for code -1, 22. Values: wattleslate_rows_place and wattleslate_width. */
+uint64_t wattleslate_pack_find(const uint8_t *pack, size_t pack_len, int32_t code);
+
+/* Puts a letter into a pack: `rows` has its rows one after another. It goes into the first free record of its width, else behind the last record; every other byte
+ * stays. Refusals: 20, 17 (code -1, width over 199, a row byte under 32 that is not the pack's hardblank, rows that are not height times width long), 21, 23. */
+uint64_t wattleslate_pack_put(uint8_t *pack, size_t pack_len, int32_t code, size_t width, const uint8_t *rows, size_t rows_len);
+
+/* Removes a letter from a pack: its record becomes free, which changes one byte. Refusals: 20, 17 for code -1, 22. */
+uint64_t wattleslate_pack_remove(uint8_t *pack, size_t pack_len, int32_t code);
+
+/* Drops the free records of a pack: the live ones follow one another in their order, and zeros stand behind them. Refusal 20. */
+uint64_t wattleslate_pack_compact(uint8_t *pack, size_t pack_len);
+
+/* Draws a line of text from a pack as wattleslate_draw does from a font: with the same characters, height and hardblank, and a layout and direction that are the
+ * font's own, it is the same drawing. The live record with code 0 stands in. A font's own layout is its Full_Layout; without one Old_Layout -1 is
+ * WATTLESLATE_FULL_WIDTH, 0 is WATTLESLATE_FITTING, and every other WATTLESLATE_SMUSHING plus itself. Refusals: 9 for a scratch under WATTLESLATE_SCRATCH bytes, 20, 17
+ * for a layout over 32,767 or a direction other than 0 and 1, 10 to 14, 15, 16, then 9 for `out`. Values: wattleslate_nothing_drawn, wattleslate_stood_in and
+ * wattleslate_width. */
+uint64_t wattleslate_draw_pack(const uint8_t *pack, size_t pack_len, size_t layout, size_t direction, const uint8_t *control,
+                               size_t control_len, const uint8_t *text, size_t text_len, uint8_t *scratch, size_t scratch_len, uint8_t *out,
+                               size_t out_len);
+
+/* Writes an empty pack of a height, 1 to 32, and a hardblank into an area of WATTLESLATE_PACK_HEAD bytes or more. The other bytes of the pack must be zeros: they
+ * are the caller's to write. */
+static inline void wattleslate_empty_pack(uint8_t *pack, uint8_t height, uint8_t hardblank) {
+    pack[0] = 'C';
+    pack[1] = 'F';
+    pack[2] = 'P';
+    pack[3] = 0;
+    pack[4] = 1;
+    pack[5] = height;
+    pack[6] = hardblank;
+}
+
 /* The bits of a place, and those of a value. */
 #define WATTLESLATE_PLACE_BITS 48
 #define WATTLESLATE_VALUE_BITS 16
@@ -162,7 +224,7 @@ static inline uint64_t wattleslate_place(uint64_t answer) {
     return answer & (((uint64_t)1 << WATTLESLATE_PLACE_BITS) - 1);
 }
 
-/* Of the calls that draw in one line, join or stack, where not refused: the width of the drawing or of the result. */
+/* Of the calls that draw in one line, join or stack, where not refused: the width of the drawing or of the result; of wattleslate_pack_find: that of the letter. */
 static inline uint32_t wattleslate_width(uint64_t answer) {
     return (uint16_t)answer;
 }
@@ -172,12 +234,12 @@ static inline uint32_t wattleslate_lines(uint64_t answer) {
     return (uint16_t)answer;
 }
 
-/* Of wattleslate_draw and wattleslate_draw_wrapped: for how many text bytes the character with code 0 stood in. A refusal tells 0. */
+/* Of wattleslate_draw, wattleslate_draw_wrapped and wattleslate_draw_pack: for how many text bytes the character with code 0 stood in. A refusal tells 0. */
 static inline uint32_t wattleslate_stood_in(uint64_t answer) {
     return wattleslate_number(answer) == WATTLESLATE_NOT_REFUSED ? (uint16_t)(answer >> WATTLESLATE_VALUE_BITS) : 0;
 }
 
-/* Of wattleslate_draw and wattleslate_draw_wrapped: for how many text bytes nothing was drawn. A refusal tells 0. */
+/* Of wattleslate_draw, wattleslate_draw_wrapped and wattleslate_draw_pack: for how many text bytes nothing was drawn. A refusal tells 0. */
 static inline uint32_t wattleslate_nothing_drawn(uint64_t answer) {
     return wattleslate_number(answer) == WATTLESLATE_NOT_REFUSED ? (uint16_t)(answer >> (2 * WATTLESLATE_VALUE_BITS)) : 0;
 }
@@ -192,7 +254,7 @@ static inline uint32_t wattleslate_stack_overlap(uint64_t answer) {
     return (uint16_t)(answer >> (2 * WATTLESLATE_VALUE_BITS));
 }
 
-/* Of wattleslate_check_font, where not refused: the height of the font; of wattleslate_stack and wattleslate_draw_stacked: the height of the result. */
+/* Of wattleslate_check_font and wattleslate_pack_check, where not refused: the height of the font or of the pack; of wattleslate_stack and wattleslate_draw_stacked: the height of the result. */
 static inline uint32_t wattleslate_height(uint64_t answer) {
     return (uint16_t)(answer >> WATTLESLATE_VALUE_BITS);
 }
@@ -200,6 +262,16 @@ static inline uint32_t wattleslate_height(uint64_t answer) {
 /* Of wattleslate_check_font, where not refused: how many characters the font has. */
 static inline uint32_t wattleslate_characters(uint64_t answer) {
     return (uint16_t)answer;
+}
+
+/* Of wattleslate_pack_check, where not refused: how many live records the pack has. */
+static inline uint32_t wattleslate_live(uint64_t answer) {
+    return (uint16_t)answer;
+}
+
+/* Of wattleslate_pack_find, where not refused: the place in the pack where the rows of the letter begin. */
+static inline uint32_t wattleslate_rows_place(uint64_t answer) {
+    return (uint32_t)(wattleslate_place(answer) >> WATTLESLATE_VALUE_BITS);
 }
 
 /* Of wattleslate_check_control, where not refused: how many stages the control file has. */

@@ -45,6 +45,29 @@ static void wrapped_sizes(void) {
     same("no byte", WATTLESLATE_WRAPPED(32, 0), 0);
 }
 
+/* The bytes of a place need 17 bits: a letter of width 0 at the end of the largest pack has its rows there. */
+static void found(uint64_t place, uint64_t width) {
+    uint64_t answer = place * 65536u + width;
+    same("number", wattleslate_number(answer), 0);
+    same("place of the rows", wattleslate_rows_place(answer), place);
+    same("width", wattleslate_width(answer), width);
+}
+
+/* The sizes of a pack, and the seven bytes of an empty one of six rows and hardblank $; the eighth stays. */
+static void packs(void) {
+    static const uint8_t wanted[8] = {67, 70, 80, 0, 1, 6, 36, 9};
+    uint8_t pack[8] = {9, 9, 9, 9, 9, 9, 9, 9};
+    same("the largest pack", WATTLESLATE_MAX_PACK, 65536);
+    same("the head of a pack", WATTLESLATE_PACK_HEAD, 7);
+    same("the head of a record", WATTLESLATE_RECORD(32, 0), 6);
+    same("a record", WATTLESLATE_RECORD(6, 5), 36);
+    same("the largest record", WATTLESLATE_RECORD(32, 199), 6374);
+    wattleslate_empty_pack(pack, 6, '$');
+    for (size_t at = 0; at < sizeof pack; at++) {
+        same("an empty pack", pack[at], wanted[at]);
+    }
+}
+
 /* "A refusal tells 0 and 0", at every place. */
 static void drawing_refused(uint64_t number, uint64_t place) {
     uint64_t answer = refused(number, place);
@@ -68,16 +91,25 @@ int main(void) {
     wrapped(0, 1024, 1024);
     wrapped(65535, 65534, 65533);
     wrapped_sizes();
+    found(13, 0);
+    found(7 + 6, 199);
+    found(65535, 1);
+    found(65536, 0);
+    packs();
     drawing_refused(16, 0);
     drawing_refused(6, 28);
     drawing_refused(5, 65536);
     drawing_refused(5, 281474976710655u);
     drawing_refused(19, 1023);
+    drawing_refused(20, 0);
+    drawing_refused(23, 0);
     same("overlap of a join", wattleslate_overlap(values(0, 2, 3)), 2);
     same("overlap of a stack", wattleslate_stack_overlap(values(2, 10, 18)), 2);
     same("height", wattleslate_height(values(2, 10, 18)), 10);
     same("width", wattleslate_width(values(2, 10, 18)), 18);
     same("characters", wattleslate_characters(values(0, 6, 103)), 103);
+    same("live records", wattleslate_live(values(0, 32, 10921)), 10921);
+    same("height of a pack", wattleslate_height(values(0, 32, 10921)), 32);
     same("stages", wattleslate_stages(values(0, 2, 256)), 2);
     same("commands", wattleslate_commands(values(0, 2, 256)), 256);
     return wrong > 0;

@@ -7,7 +7,7 @@ use Prim.Native.Nat.{ℕ, _*_, _/_, _%_, _≤_}
 use native.Mathlib.Omega.{arith}
 use lib.ListN.{length}
 use Rattle.ground.specs.Limits.{maxFontLength}
-use Rattle.ground.specs.Refusals.{stackTooHigh, characterTooWide}
+use Rattle.ground.specs.Refusals.{stackTooHigh, noRoom}
 use Rattle.ground.specs.declared.refusals.Refusal.{Refusal}
 use Rattle.ground.proofs.Tests.{clash}
 use Rattle.subchars.specs.declared.Mode.{Mode}
@@ -55,7 +55,7 @@ pub values-apart : (a b c : ℕ) → ValuesFit a b c →
 values-apart a b c p = (omega arith, omega arith, omega arith, omega arith)
 
 -- A number of the table and a place in a file have room.
-table-fits : (number place : ℕ) → 1 ≤ number → number ≤ characterTooWide → place ≤ maxFontLength → RefusalFits number place
+pub table-fits : (number place : ℕ) → 1 ≤ number → number ≤ noRoom → place ≤ maxFontLength → RefusalFits number place
 table-fits number place l m n = record { not-0 = l; number-in-16 = omega arith; place-in-48 = omega arith }
 
 -- A font's: its Height is at most 32, and it has at most 512 characters.
@@ -74,7 +74,7 @@ module _ (s : List ℕ) where
 
 -- A control file's: at most 256 commands and 64 stages.
 module _ (s : List ℕ) where
-  control-fits : (r : Refusal) → flc.control s ≡ flc.refuses r → RefusalFits (r .number) (r .place)
+  pub control-fits : (r : Refusal) → flc.control s ≡ flc.refuses r → RefusalFits (r .number) (r .place)
   control-fits r e = let n = control-refusal s r e in table-fits _ _ (omega (arith, n .0)) (omega (arith, n .1)) (omega (arith, n .3))
 
   pub control-refusal-fits : (r : Refusal) → control-is.Refused r ≡ lists.controlAnswer (flc.control s) → RefusalFits (r .number) (r .place)
@@ -96,7 +96,7 @@ module _ (s : List ℕ) where
       go (flc.refuses r) p q = clash (cc)
 
 -- A drawing's: a text has at most 1,024 bytes to count.
-abbrev DrawFits : DrawAnswer → Type 0
+abbrev pub DrawFits : DrawAnswer → Type 0
 DrawFits (draw-is.Drawn w n) = ValuesFit (n .«nothing_drawn») (n .«stood_in») w
 DrawFits (draw-is.Refused r) = RefusalFits (r .number) (r .place)
 

@@ -2,3 +2,4 @@
 pub mod JoinLaws
 pub mod StackLaws
 pub mod Bounds
+pub mod PackBounds

@@ -7,6 +7,9 @@ use lib.Dec.{leb, ltb}
 use Rattle.ground.specs.Area.{zeros}
 use Rattle.ground.specs.Limits.{maxFullLayout, maxDirection}
 use Rattle.ground.specs.Refusals.{badShape}
+use Rattle.subchars.specs.declared.Layout.{Layout}
+use Rattle.subchars.specs.declared.Layout.the-variants.{Smushing}
+use Rattle.subchars.specs.declared.Smushing.the-variants.{Controlled}
 use Rattle.subchars.specs.declared.Mode.{Mode}
 use Rattle.subchars.specs.Layouts.{fullLayout, fullVertical, printDirection}
 use Rattle.reader.specs.declared.FontAnswer.{FontAnswer}
@@ -15,6 +18,12 @@ use Rattle.wattleslate.specs.ControlCall.{ControlTold}
 use Rattle.wattleslate.specs.DrawCall.{DrawTold}
 use Rattle.join.specs.JoinCall.{JoinTold, refusing, joinTold, joinArea}
 use Rattle.stack.specs.StackCall.{StackTold, noStackIf, stackTold, stackArea}
+use Rattle.pack.specs.declared.PackAnswer.{PackAnswer}
+use Rattle.pack.specs.declared.PackAnswer.the-variants as pack-is
+use Rattle.pack.specs.declared.FindAnswer.{FindAnswer}
+use Rattle.pack.specs.declared.FindAnswer.the-variants as find-is
+use Rattle.pack.specs.declared.EditAnswer.{EditAnswer}
+use Rattle.pack.specs.declared.EditAnswer.the-variants as edit-is
 use Rattle.wrapping.specs.declared.WrapAnswer.{WrapAnswer}
 use Rattle.wrapping.specs.declared.WrapAnswer.the-variants as wrap-is
 use Rattle.wrapping.specs.declared.WrapAnswer.the-variants.{Wrapped}
@@ -102,3 +111,32 @@ stackTaken layout hardblank n upperWidth upper m lowerWidth lower room =
 unfoldable pub stackLeft : ℕ → ℕ → ℕ → ℕ → List ℕ → ℕ → ℕ → List ℕ → ℕ → List ℕ
 stackLeft layout hardblank n upperWidth upper m lowerWidth lower room =
     cond (ltb maxFullLayout layout) (zeros room) (stackArea (fullVertical layout) hardblank n upperWidth upper m lowerWidth lower room)
+
+-- 02, Q-6. The check of a pack: its Height, and how many records are live.
+abbrev pub packNumber : PackAnswer → ℕ
+packNumber (pack-is.Accepted h n) = threeValues 0 h n
+packNumber (pack-is.Refused r) = refusedAt (r .number) (r .place)
+
+-- The width of a letter, and in the bits of the other two values where its rows start.
+abbrev pub placedAt : ℕ → ℕ → ℕ
+placedAt place width = place * valueBound + width
+
+pub record PlaceFits (place width : ℕ) : Type 0 where
+  pub place-in-32 : place < valueBound * valueBound
+  pub width-in-16 : width < valueBound
+
+abbrev pub findNumber : FindAnswer → ℕ
+findNumber (find-is.Found place width) = placedAt place width
+findNumber (find-is.Refused r) = refusedAt (r .number) (r .place)
+
+-- A change that is done tells nothing.
+abbrev pub editNumber : EditAnswer → ℕ
+editNumber edit-is.Done = 0
+editNumber (edit-is.Refused r) = refusedAt (r .number) (r .place)
+
+-- "A layout over 32,767 or a direction other than 0 and 1 is a layout of bad shape, so that 17 keeps its place": controlled smushing without a rule.
+abbrev pub shapeless : Layout
+shapeless = Smushing (Controlled 0)
+
+unfoldable pub layoutBy : ℕ → ℕ → Layout
+layoutBy layout direction = cond (legalMode layout direction) (fullLayout layout) shapeless

@@ -1,4 +1,6 @@
 // The calls for programs in C and Rust: byte slices and numbers in, one number out. Each is total, as the calls that it stands on.
+pub mod packs;
+
 use drawing::DrawAnswer;
 use flc::ControlAnswer;
 use ground::limits;
@@ -27,13 +29,13 @@ ghost use Rattle.wrapping.specs.Wrapping.{drawWrapped, wrapIn, wrapAnswer, wrap
 ghost use Rattle.capi.specs.Numbers.{refusedAt, RefusalFits, threeValues, ValuesFit, fontNumber, controlNumber, drawNumber, wrapNumber, joinNumber, joinTaken, joinLeft, stackNumber, stackTaken, stackLeft};
 
 // A value is below this, as is a refusal's number: 16 bits.
-const VALUE_BOUND: u64 = 65536;
+pub(crate) const VALUE_BOUND: u64 = 65536;
 
 // A place is below this: 48 bits, those of three values.
 const PLACE_BOUND: u64 = VALUE_BOUND * VALUE_BOUND * VALUE_BOUND;
 
 // A refusal's number above its place.
-fn refused_at(number: usize, place: usize) -> u64
+pub(crate) fn refused_at(number: usize, place: usize) -> u64
     requires { ⌜ RefusalFits number place ⌝ }
     ensures { λ r. ⌜ r ≡ refusedAt number place ⌝ }
 {
@@ -41,7 +43,7 @@ fn refused_at(number: usize, place: usize) -> u64
 }
 
 // Three values in the place's bits.
-fn three_values(a: usize, b: usize, c: usize) -> u64
+pub(crate) fn three_values(a: usize, b: usize, c: usize) -> u64
     requires { ⌜ ValuesFit a b c ⌝ }
     ensures { λ r. ⌜ r ≡ threeValues a b c ⌝ }
 {

@@ -30,7 +30,7 @@ use Rattle.source.specs.Source.{Source, fontSource}
 use Rattle.source.specs.Counting.{countsOf}
 use Rattle.drawing.specs.declared.DrawAnswer.{DrawAnswer}
 use Rattle.drawing.specs.declared.DrawAnswer.the-variants.{Refused}
-use Rattle.drawing.specs.Drawing.{textCodes, lineOf, modeOf, linedText, unlined, linedBy, linedOf, withCounts, linedAnswer, bytesOf, PutOut}
+use Rattle.drawing.specs.Drawing.{textCodes, lineOf, modeOf, linedText, unlined, linedFrom, linedBy, linedOf, withCounts, linedAnswer, bytesOf, PutOut}
 use Rattle.drawing.specs.Steps.{Reached}
 
 -- A refusal leaves zeros.
@@ -77,18 +77,26 @@ module _ (y : Mode) (h : ℕ) (source : Source) (codes : List Code) (w : ℕ) (c
   unfolding linedAnswer bytesOf
   lined-out a p out f e b = record { answers = f ∙ ap (withCounts counts) (e ∙ same-output) ∙ same-counts; holds = b ∙ same-bytes (y .hardblank .0) }
 
--- A text, by a font and a control file that are read.
-module _ (s control text : List ℕ) (h : Header) (es : List Entry) (cs : List Command) (k : ℕ) (font-said : font.reading s ≡ font.says h es) (control-said : flc.control control ≡ flc.reads cs k) where
-  read-lined : linedOf s control text ≡ cond (ltb maxText (length text)) (unlined (refusal textTooLong 0)) (linedText (modeOf h) (h .height) (fontSource s es) (textCodes cs k text))
-  unfolding linedOf
-  read-lined = ap (λ (f : font.FontReading). linedBy s f (flc.control control) text) font-said ∙ ap (λ (c : flc.ControlReading). linedBy s (font.says h es) c text) control-said
-
-  by-length : (b : Bool) → ltb maxText (length text) ≡ b → linedOf s control text ≡ cond b (unlined (refusal textTooLong 0)) (linedText (modeOf h) (h .height) (fontSource s es) (textCodes cs k text))
-  by-length b e = read-lined ∙ ap (λ (x : Bool). cond x (unlined (refusal textTooLong 0)) (linedText (modeOf h) (h .height) (fontSource s es) (textCodes cs k text))) e
+-- A text from a source, by a control file that is read.
+module _ (y : Mode) (h : ℕ) (source : Source) (control text : List ℕ) (cs : List Command) (k : ℕ) (control-said : flc.control control ≡ flc.reads cs k) where
+  by-length : (b : Bool) → ltb maxText (length text) ≡ b → linedFrom y h source (flc.control control) text ≡ cond b (unlined (refusal textTooLong 0)) (linedText y h source (textCodes cs k text))
+  by-length b e = ap (λ (c : flc.ControlReading). linedFrom y h source c text) control-said ∙ ap (λ (x : Bool). cond x (unlined (refusal textTooLong 0)) (linedText y h source (textCodes cs k text))) e
 
   -- 15: "text too long"
+  pub source-long : maxText < length text → linedFrom y h source (flc.control control) text ≡ unlined (refusal textTooLong 0)
+  source-long l = by-length true (lt-ltb maxText (length text) l)
+
+  pub source-lined : length text ≤ maxText → linedFrom y h source (flc.control control) text ≡ linedText y h source (textCodes cs k text)
+  source-lined l = by-length false (le-ltb maxText (length text) l)
+
+-- The same by a font that is read.
+pub font-lined : (s control text : List ℕ) (h : Header) (es : List Entry) → font.reading s ≡ font.says h es → linedOf s control text ≡ linedFrom (modeOf h) (h .height) (fontSource s es) (flc.control control) text
+unfolding linedOf
+font-lined s control text h es font-said = ap (λ (f : font.FontReading). linedBy s f (flc.control control) text) font-said
+
+module _ (s control text : List ℕ) (h : Header) (es : List Entry) (cs : List Command) (k : ℕ) (font-said : font.reading s ≡ font.says h es) (control-said : flc.control control ≡ flc.reads cs k) where
   pub text-long : maxText < length text → linedOf s control text ≡ unlined (refusal textTooLong 0)
-  text-long l = by-length true (lt-ltb maxText (length text) l)
+  text-long l = font-lined s control text h es font-said ∙ source-long (modeOf h) (h .height) (fontSource s es) control text cs k control-said l
 
   pub text-lined : length text ≤ maxText → linedOf s control text ≡ linedText (modeOf h) (h .height) (fontSource s es) (textCodes cs k text)
-  text-lined l = by-length false (le-ltb maxText (length text) l)
+  text-lined l = font-lined s control text h es font-said ∙ source-lined (modeOf h) (h .height) (fontSource s es) control text cs k control-said l

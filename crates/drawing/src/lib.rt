@@ -11,6 +11,7 @@ use index::latest;
 use reader::FontAnswer;
 use source::Chosen;
 use source::Counts;
+use source::Origin;
 use subchars::Code;
 use subchars::Direction;
 use subchars::Mode;
@@ -27,13 +28,14 @@ ghost use Rattle.index.specs.Index.{CharacterRoom};
 ghost use Rattle.index.specs.Latest.{smallCodes};
 ghost use Rattle.join.specs.Writing.{RowAfterRow};
 ghost use Rattle.figure.specs.Scratch.{scratchLine};
+ghost use Rattle.flc.specs.Control as flc;
 ghost use Rattle.flc.specs.Passing.{ControlHeld};
 ghost use Rattle.flc.specs.Filling.{CommandRoom};
 ghost use Rattle.source.specs.Source.{Choice, Source};
 ghost use Rattle.source.specs.Counting.{countsOf};
-ghost use Rattle.source.specs.Held.{FontHeld, Gives};
+ghost use Rattle.source.specs.Held.{Gives};
 ghost use Rattle.source.specs.Steps.{ChosenAs};
-ghost use Rattle.drawing.specs.Drawing.{directionOf, modeOf, textCodes, byteChoice, lineOf, Lined, linedText, linedOf, drawLined, withCounts, PutOut};
+ghost use Rattle.drawing.specs.Drawing.{directionOf, modeOf, textCodes, byteChoice, lineOf, Lined, linedText, linedFrom, linedOf, drawLined, withCounts, PutOut};
 ghost use Rattle.drawing.specs.Held.{filesOf, FilesHeld};
 ghost use Rattle.drawing.specs.Steps.{withCharacter, Reached, TextDrawn};
 
@@ -124,7 +126,7 @@ pub fn choose_byte(
     byte: u8,
     font: &[u8],
     height: usize,
-    count: usize,
+    origin: Origin,
     codes: &[i32],
     starts: &[usize],
     widths: &[usize],
@@ -136,10 +138,10 @@ pub fn choose_byte(
     news: &[i32],
     found: &mut [usize],
 ) -> Chosen
-    requires { ⌜ ((source : Source) × Gives source (now font) height count (now codes) (now starts) (now widths) (now places)) ⌝ }
+    requires { ⌜ ((source : Source) × Gives source (now font) height origin (now codes) (now starts) (now widths) (now places)) ⌝ }
     requires { ⌜ ((control : List ℕ) × ControlHeld control commands (now stages) (now firsts) (now lasts) (now news)) ⌝ }
     requires { ⌜ maxHeight ≤ length (now found) ⌝ }
-    ensures { λ r. ⌜ ((source : Source) → Gives source (now (font .entry)) height count (now (codes .entry)) (now (starts .entry)) (now (widths .entry)) (now (places .entry)) → (control : List ℕ) (held : ControlHeld control commands (now (stages .entry)) (now (firsts .entry)) (now (lasts .entry)) (now (news .entry))) → ChosenAs (now (font .entry)) (now (found .exit)) height r (byteChoice source (held .commands) (held .count) byte)) ⌝ }
+    ensures { λ r. ⌜ ((source : Source) → Gives source (now (font .entry)) height origin (now (codes .entry)) (now (starts .entry)) (now (widths .entry)) (now (places .entry)) → (control : List ℕ) (held : ControlHeld control commands (now (stages .entry)) (now (firsts .entry)) (now (lasts .entry)) (now (news .entry))) → ChosenAs (now (font .entry)) (now (found .exit)) height r (byteChoice source (held .commands) (held .count) byte)) ⌝ }
 {
     let own = code_of(byte);
     let code = mapping::map_by(stages, firsts, lasts, news, commands, own);
@@ -147,7 +149,7 @@ pub fn choose_byte(
         code,
         font,
         height,
-        count,
+        origin,
         codes,
         starts,
         widths,
@@ -164,7 +166,7 @@ pub fn join_text(
     mode: Mode,
     height: usize,
     font: &[u8],
-    count: usize,
+    origin: Origin,
     codes: &[i32],
     starts: &[usize],
     widths: &[usize],
@@ -175,10 +177,10 @@ pub fn join_text(
     lasts: &[i32],
     news: &[i32],
 ) -> DrawnText
-    requires { ⌜ ((source : Source) × Gives source (now font) height count (now codes) (now starts) (now widths) (now places)) ⌝ }
+    requires { ⌜ ((source : Source) × Gives source (now font) height origin (now codes) (now starts) (now widths) (now places)) ⌝ }
     requires { ⌜ ((control : List ℕ) × ControlHeld control commands (now stages) (now firsts) (now lasts) (now news)) ⌝ }
     requires { ⌜ (limit ≤ maxLineWidth) × (minScratch ≤ length (now area)) ⌝ }
-    ensures { λ d. ⌜ ((source : Source) (given : Gives source (now (font .entry)) height count (now (codes .entry)) (now (starts .entry)) (now (widths .entry)) (now (places .entry))) (control : List ℕ) (held : ControlHeld control commands (now (stages .entry)) (now (firsts .entry)) (now (lasts .entry)) (now (news .entry))) → TextDrawn mode height limit source (textCodes (held .commands) (held .count) (now (text .entry))) d (now (area .exit))) ⌝ }
+    ensures { λ d. ⌜ ((source : Source) (given : Gives source (now (font .entry)) height origin (now (codes .entry)) (now (starts .entry)) (now (widths .entry)) (now (places .entry))) (control : List ℕ) (held : ControlHeld control commands (now (stages .entry)) (now (firsts .entry)) (now (lasts .entry)) (now (news .entry))) → TextDrawn mode height limit source (textCodes (held .commands) (held .count) (now (text .entry))) d (now (area .exit))) ⌝ }
 {
     let rows = join::row_starts(limits::MAX_LINE_WIDTH, height);
     let mut found = [0usize; limits::MAX_HEIGHT];
@@ -190,7 +192,7 @@ pub fn join_text(
             text[i],
             font,
             height,
-            count,
+            origin,
             codes,
             starts,
             widths,
@@ -213,7 +215,7 @@ pub fn join_text(
 }
 
 // A refusal, with zeros all through the output.
-fn refuse(r: Refusal, out: &mut [u8]) -> DrawAnswer
+pub fn refuse(r: Refusal, out: &mut [u8]) -> DrawAnswer
     ensures { λ a. ⌜ PutOut (Lined.unlined r) (length (now (out .entry))) a (now (out .exit)) ⌝ }
 {
     ground::zero_from(out, 0);
@@ -246,14 +248,15 @@ fn put_out(
     with_counts(counts, answer)
 }
 
-// Draws a text by a font and a control file that were read: 15, 16, then 9 for the output.
-fn draw_text(
+// Draws a text from a source of characters, by a control file that was read: 15, 16, then 9 for the output.
+pub fn draw_from(
     out: &mut [u8],
     area: &mut [u8],
     text: &[u8],
+    mode: Mode,
+    height: usize,
     font: &[u8],
-    header: Header,
-    count: usize,
+    origin: Origin,
     codes: &[i32],
     starts: &[usize],
     widths: &[usize],
@@ -264,30 +267,24 @@ fn draw_text(
     lasts: &[i32],
     news: &[i32],
 ) -> DrawAnswer
-    requires { ⌜ FontHeld (now font) header count (now codes) (now starts) (now widths) (now places) ⌝ }
+    requires { ⌜ ((source : Source) × Gives source (now font) height origin (now codes) (now starts) (now widths) (now places)) ⌝ }
     requires { ⌜ ((control : List ℕ) × ControlHeld control commands (now stages) (now firsts) (now lasts) (now news)) ⌝ }
     requires { ⌜ minScratch ≤ length (now area) ⌝ }
-    ensures { λ a. ⌜ ((control : List ℕ) → ControlHeld control commands (now (stages .entry)) (now (firsts .entry)) (now (lasts .entry)) (now (news .entry)) → PutOut (linedOf (now (font .entry)) control (now (text .entry))) (length (now (out .entry))) a (now (out .exit))) ⌝ }
+    ensures { λ a. ⌜ ((source : Source) → Gives source (now (font .entry)) height origin (now (codes .entry)) (now (starts .entry)) (now (widths .entry)) (now (places .entry)) → (control : List ℕ) → ControlHeld control commands (now (stages .entry)) (now (firsts .entry)) (now (lasts .entry)) (now (news .entry)) → PutOut (linedFrom mode height source (flc.control control) (now (text .entry))) (length (now (out .entry))) a (now (out .exit))) ⌝ }
 {
     if limits::MAX_TEXT < text.len() {
-        return refuse(
-            Refusal {
-                number: refusals::TEXT_TOO_LONG,
-                place: 0,
-            },
-            out,
-        );
+        let number = refusals::TEXT_TOO_LONG;
+        return refuse(Refusal { number, place: 0 }, out);
     }
-    let mode = mode_of(header);
-    let height = header.height;
+    let limit = limits::MAX_LINE_WIDTH;
     let drawn = join_text(
         area,
         text,
-        limits::MAX_LINE_WIDTH,
+        limit,
         mode,
         height,
         font,
-        count,
+        origin,
         codes,
         starts,
         widths,
@@ -298,16 +295,8 @@ fn draw_text(
         lasts,
         news,
     );
-    let counts = source::counts_of(
-        drawn.missing,
-        font,
-        height,
-        count,
-        codes,
-        starts,
-        widths,
-        places,
-    );
+    let missing = drawn.missing;
+    let counts = source::counts_of(missing, font, height, origin, codes, starts, widths, places);
     put_out(out, area, mode, height, drawn.width, counts)
 }
 
@@ -336,13 +325,14 @@ pub fn draw_line(
             header,
             count,
             commands,
-        } => draw_text(
+        } => draw_from(
             out,
             area,
             text,
+            mode_of(header),
+            header.height,
             font,
-            header,
-            count,
+            Origin::Font { count },
             codes,
             starts,
             widths,

@@ -19,7 +19,7 @@ use Rattle.header.specs.declared.HeaderStep.{HeaderStep}
 use Rattle.header.specs.declared.HeaderStep.the-variants.{Good, Refused}
 use Rattle.header.specs.Header.{readHeader}
 use Rattle.header.proofs.ParameterLaws.{High}
-use Rattle.header.proofs.RefusalLaws.{header-high}
+use Rattle.header.proofs.RefusalLaws.{Numbered, header-numbered}
 use Rattle.chars.specs.declared.Entry.{Entry}
 use Rattle.chars.specs.Codes.{code, requiredCodes, requiredCount}
 use Rattle.chars.specs.Chars.{Ending, finished, stopped, Listing, listing}
@@ -56,8 +56,8 @@ lines-read size (l ∷ ls) h es e = go (readHeader (l .text)) refl e
     go (Good g) p q = said g p (leb (g .«comment_lines») (length ls)) q
 
 module _ (size : ℕ) (h : Header) where
-  read-high : (ls : List TextLine) (es : List Entry) → LinesRead size h ls es → High (h .height)
-  read-high _ _ (behind l ls p q) = header-high (l .text) h p
+  read-numbered : (ls : List TextLine) (es : List Entry) → LinesRead size h ls es → Numbered h
+  read-numbered _ _ (behind l ls p q) = header-numbered (l .text) h p
 
   read-sound : (ls : List TextLine) (es : List Entry) → LinesRead size h ls es → (length es ≤ maxCharacters) × EachStands (format h) ls es
   read-sound _ _ (behind l ls p q) =
@@ -91,7 +91,11 @@ module _ (s : List ℕ) where
   font-read h es e =
       let x = font-lines h es e in
       let r = read-sound (length s) h (linesFrom s 0) es (x .1) in
-      record { short = x .0; high = read-high (length s) h (linesFrom s 0) es (x .1); few = r .0; rows = r .1 }
+      record { short = x .0; high = read-numbered (length s) h (linesFrom s 0) es (x .1) .rows; few = r .0; rows = r .1 }
+
+  -- its header's layout is one that the numbers of a header give
+  pub font-numbered : (h : Header) (es : List Entry) → reading s ≡ says h es → Numbered h
+  font-numbered h es e = read-numbered (length s) h (linesFrom s 0) es (font-lines h es e .1)
 
   -- behind the header line and the comment lines stand the characters of the required codes, in order, and then the tagged ones, each behind the tag line that names its code
   pub font-coded : (h : Header) (es : List Entry) → reading s ≡ says h es → Coded (format h) requiredCodes (drop (suc (h .«comment_lines»)) (linesFrom s 0)) es

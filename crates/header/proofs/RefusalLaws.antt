@@ -17,11 +17,12 @@ use Rattle.lines.specs.Words.{isBlank}
 use Rattle.header.specs.declared.Parameters.{Parameters}
 use Rattle.header.specs.declared.ParameterStep.{ParameterStep}
 use Rattle.header.specs.declared.ParameterStep.the-variants.{All, TooFew}
+use Rattle.header.specs.declared.Given.{Given}
 use Rattle.header.specs.declared.Header.{Header}
 use Rattle.header.specs.declared.HeaderStep.{HeaderStep}
 use Rattle.header.specs.declared.HeaderStep.the-variants.{Good, Refused}
 use Rattle.subchars.specs.Pair.{legalHardblank}
-use Rattle.header.specs.Header.{parameterNumbers, parameters, legalParameters, header, refused, headerWith, headerOf, afterHardblank, afterSignature, fontSignature, readHeader}
+use Rattle.header.specs.Header.{parameterNumbers, parameters, legalParameters, given, layoutOf, header, refused, headerWith, headerOf, afterHardblank, afterSignature, fontSignature, readHeader}
 use Rattle.header.proofs.LineLaws.{no-signature, signed}
 use Rattle.header.proofs.ParameterLaws.{too-few, High, high}
 
@@ -62,9 +63,16 @@ parameters-exactly rest = (to rest, λ w. ⊎-elim (λ e. subst BadParameters (s
     by x more false e w = no-blank e
     by x more true e w = ⊎-elim (λ q. clash (cc)) (λ v. ⊎-elim (λ l. under-five e l) (λ z. out-of-range (z .0) e (z .1) (z .2)) v) w
 
+-- What holds of a header that is read: its layout is one that a header's numbers give.
+pub record Numbered (x : Header) : Type 0 where
+  pub rows : High (x .height)
+  pub old : ℤ
+  pub full : Given
+  pub layout : x .layout ≡ layoutOf old full
+
 -- What an answer to what follows the hardblank is for.
 data After (rest : List ℕ) (r : HeaderStep) : Type 0 where
-  fine : (x : Header) → r ≡ Good x → High (x .height) → After rest r
+  fine : (x : Header) → r ≡ Good x → Numbered x → After rest r
   bad : BadParameters rest → r ≡ refused badParameters → After rest r
 
 few-numbers : (zs : List ℤ) → parameters zs ≡ TooFew → length zs < 5
@@ -82,7 +90,7 @@ after-is h [] = bad no-more refl
 after-is h (x ∷ rest) = at-blank (isBlank x) refl
   where
     in-range : (p : Parameters) → isBlank x ≡ true → parameters (parameterNumbers rest) ≡ All p → (l : Bool) → legalParameters p ≡ l → After (x ∷ rest) (cond l (Good (header h p)) (refused badParameters))
-    in-range p e q true l = fine (header h p) refl (high p l)
+    in-range p e q true l = fine (header h p) refl (record { rows = high p l; old = p .«old_layout»; full = given (p .«full_layout»); layout = refl })
     in-range p e q false l = bad (out-of-range p e q l) refl
 
     named : isBlank x ≡ true → (s : ParameterStep) → parameters (parameterNumbers rest) ≡ s → After (x ∷ rest) (headerWith h s)
@@ -238,14 +246,14 @@ module _ (t : List ℕ) where
       go false e = known noSignature r (omega arith) (omega arith) (sym (without-signature e) ∙ q)
 
   -- a header that is read has 1 to 32 rows
-  signed-high : (u : List ℕ) (x : HeaderStep) (y : Header) → Signed u x → x ≡ Good y → High (y .height)
-  signed-high u x y (unblank b e) q = clash (cc)
-  signed-high u x y (blank h rest e b (fine z g t)) q = let p : z ≡ y = cc in subst (λ (v : Header). High (v .height)) p t
-  signed-high u x y (blank h rest e b (bad p g)) q = clash (cc)
+  signed-numbered : (u : List ℕ) (x : HeaderStep) (y : Header) → Signed u x → x ≡ Good y → Numbered y
+  signed-numbered u x y (unblank b e) q = clash (cc)
+  signed-numbered u x y (blank h rest e b (fine z g t)) q = let p : z ≡ y = cc in subst Numbered p t
+  signed-numbered u x y (blank h rest e b (bad p g)) q = clash (cc)
 
-  pub header-high : (y : Header) → readHeader t ≡ Good y → High (y .height)
-  header-high y q = go (begins fontSignature t) refl
+  pub header-numbered : (y : Header) → readHeader t ≡ Good y → Numbered y
+  header-numbered y q = go (begins fontSignature t) refl
     where
-      go : (b : Bool) → begins fontSignature t ≡ b → High (y .height)
-      go true e = signed-high (drop (length fontSignature) t) (afterSignature (drop (length fontSignature) t)) y behind (sym (with-signature e) ∙ q)
+      go : (b : Bool) → begins fontSignature t ≡ b → Numbered y
+      go true e = signed-numbered (drop (length fontSignature) t) (afterSignature (drop (length fontSignature) t)) y behind (sym (with-signature e) ∙ q)
       go false e = let r = sym (without-signature e) ∙ q in clash (cc)

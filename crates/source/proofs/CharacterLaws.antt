@@ -24,11 +24,14 @@ use Rattle.reader.specs.Reader.{used, lookedUp}
 use Rattle.reader.proofs.ThreeLaws.{own-found, other-stood-in, unused-nothing, used-zero}
 use Rattle.request.proofs.RowLaws.{RowStands, used-stands}
 use Rattle.lines.specs.Lines.{lineEnd, after}
+use Rattle.heads.proofs.FindLaws.{some, low}
+use Rattle.source.specs.declared.Origin.{Origin}
+use Rattle.source.specs.declared.Origin.the-variants.{Font, Pack}
 use Rattle.source.specs.declared.Chosen.{Chosen}
 use Rattle.source.specs.declared.Chosen.the-variants as chosen
 use Rattle.source.specs.Source.{Source, characterOf, choiceOf, fontSource}
-use Rattle.source.specs.Counting.{isStoodIn, isNothing, howMany}
-use Rattle.source.specs.Held.{FontHeld, Gives, of-font}
+use Rattle.source.specs.Counting.{StandsIn}
+use Rattle.source.specs.Held.{FontHeld, FontGives, GivesBy, Gives}
 use Rattle.source.specs.Steps.{Standing, RowPlaces, Shows, ChosenAs}
 use Rattle.source.proofs.CountLaws.{with-code-0, without-code-0}
 
@@ -70,37 +73,49 @@ module _ (s : List ℕ) (h : Header) (count : ℕ) (codes : List ℤ) (starts wi
   unfolding fontSource
   font-nothing c u at = rw (unused-nothing c (held .characters) (sym u)) tt
 
--- The same of every source that is given.
-module _ (source : Source) (s : List ℕ) (height count : ℕ) (codes : List ℤ) (starts widths places : List ℕ) where
-  abbrev Given : Type 0
-  Given = Gives source s height count codes starts widths places
+-- The same of a source that a font gives.
+module _ (source : Source) (s : List ℕ) (height count : ℕ) (codes : List ℤ) (starts widths places : List ℕ) (g : FontGives source s height count codes starts widths places) where
+  pub font-high : (0 < height) × (height ≤ maxHeight)
+  font-high = rw (g .high) (some-rows s (g .header) count codes starts widths places (g .held), few-rows s (g .header) count codes starts widths places (g .held))
 
-  pub given-high : Given → (0 < height) × (height ≤ maxHeight)
-  given-high (of-font h held e f) = rw e (some-rows s h count codes starts widths places held, few-rows s h count codes starts widths places held)
-
-  pub given-room : Given → CharacterRoom count codes starts widths × Latest (take count codes) places
-  given-room (of-font h held e f) = (held .long, held .latest)
+  pub font-room : CharacterRoom count codes starts widths × Latest (take count codes) places
+  font-room = (g .held .long, g .held .latest)
 
   -- what is found in the lists for a code
   abbrev pub Looked : Code → Use → Type 0
   Looked c x = (es : List Entry) → count ≡ length es → Lists es codes starts widths → x ≡ used c es
 
+  its : (c : Code) (x : Use) → Looked c x → x ≡ used c (g .held .characters)
+  its c x looked = looked (g .held .characters) (g .held .count) (g .held .lists)
+
   module _ (c : Code) (x : Entry) (looked : Looked c (Used x)) where
-    pub given-standing : Given → Standing s (x .start) (x .width) height
-    given-standing (of-font h held e f) = rw e (font-standing s h count codes starts widths places held c x (looked (held .characters) (held .count) (held .lists)))
+    pub given-standing : Standing s (x .start) (x .width) height
+    given-standing = rw (g .high) (font-standing s (g .header) count codes starts widths places (g .held) c x (its c (Used x) looked))
 
-    pub given-marked : Given → (r : ℕ) → r < height → after r s (x .start) + x .width < lineEnd s (after r s (x .start))
-    given-marked (of-font h held e f) = rw e (font-marked s h count codes starts widths places held c x (looked (held .characters) (held .count) (held .lists)))
+    pub given-marked : (r : ℕ) → r < height → after r s (x .start) + x .width < lineEnd s (after r s (x .start))
+    given-marked = rw (g .high) (font-marked s (g .header) count codes starts widths places (g .held) c x (its c (Used x) looked))
 
-    pub given-chosen : (at : List ℕ) → RowPlaces s (x .start) height at → Given → ChosenAs s at height (chosen.Character (x .width) (sameCode (x .code) c)) (source c)
-    given-chosen at p (of-font h held e f) = rw (e, f) (font-chosen s h count codes starts widths places held c x (looked (held .characters) (held .count) (held .lists)) at (rw e at p))
+    pub given-chosen : (at : List ℕ) → RowPlaces s (x .start) height at → ChosenAs s at height (chosen.Character (x .width) (sameCode (x .code) c)) (source c)
+    given-chosen at p = rw (g .high, g .is) (font-chosen s (g .header) count codes starts widths places (g .held) c x (its c (Used x) looked) at (rw (g .high) at p))
 
-  pub given-nothing : (c : Code) → Looked c Nothing → (at : List ℕ) → Given → ChosenAs s at height chosen.Nothing (source c)
-  given-nothing c looked at (of-font h held e f) = rw (e, f) (font-nothing s h count codes starts widths places held c (looked (held .characters) (held .count) (held .lists)) at)
+  pub given-nothing : (c : Code) → Looked c Nothing → (at : List ℕ) → ChosenAs s at height chosen.Nothing (source c)
+  given-nothing c looked at = rw (g .high, g .is) (font-nothing s (g .header) count codes starts widths places (g .held) c (its c Nothing looked) at)
 
-  -- a source that has a code 0 leaves nothing out, and one that has none stands in for nothing
-  pub given-stands-in : (x : Entry) → Looked (code (pos 0)) (Used x) → Given → (cs : List Code) → howMany isNothing source cs ≡ 0
-  given-stands-in x looked (of-font h held e f) cs = rw f (with-code-0 s (held .characters) x (sym (looked (held .characters) (held .count) (held .lists) ∙ used-zero (held .characters))) cs)
+  -- one that has a code 0 leaves nothing out, and one that has none stands in for nothing
+  pub given-stands-in : (x : Entry) → Looked (code (pos 0)) (Used x) → StandsIn true source
+  given-stands-in x looked cs = rw (g .is) (with-code-0 s (g .held .characters) x (sym (its (code (pos 0)) (Used x) looked ∙ used-zero (g .held .characters))) cs)
 
-  pub given-leaves-out : Looked (code (pos 0)) Nothing → Given → (cs : List Code) → howMany isStoodIn source cs ≡ 0
-  given-leaves-out looked (of-font h held e f) cs = rw f (without-code-0 s (held .characters) (sym (looked (held .characters) (held .count) (held .lists) ∙ used-zero (held .characters))) cs)
+  pub given-leaves-out : Looked (code (pos 0)) Nothing → StandsIn false source
+  given-leaves-out looked cs = rw (g .is) (without-code-0 s (g .held .characters) (sym (its (code (pos 0)) Nothing looked ∙ used-zero (g .held .characters))) cs)
+
+-- Every source that is given has 1 to 32 rows.
+high-by : (source : Source) (s : List ℕ) (height : ℕ) (origin : Origin) (codes : List ℤ) (starts widths places : List ℕ) → GivesBy source s height origin codes starts widths places → (0 < height) × (height ≤ maxHeight)
+high-by source s height (Font n) codes starts widths places g = font-high source s height n codes starts widths places g
+high-by source s height Pack codes starts widths places g = rw (g .high) (some s (g .head) (g .records) (g .said), low s (g .head) (g .records) (g .said))
+
+pub given-high : (source : Source) (s : List ℕ) (height : ℕ) (origin : Origin) (codes : List ℤ) (starts widths places : List ℕ) → Gives source s height origin codes starts widths places → (0 < height) × (height ≤ maxHeight)
+given-high source s height origin codes starts widths places g = high-by source s height origin codes starts widths places (g .by)
+
+-- A font that was read gives its characters.
+pub font-gives : (s : List ℕ) (h : Header) (n : ℕ) (codes : List ℤ) (starts widths places : List ℕ) (held : FontHeld s h n codes starts widths places) → Gives (fontSource s (held .characters)) s (h .height) (Font n) codes starts widths places
+font-gives s h n codes starts widths places held = record { by = record { header = h; held = held; high = refl; is = refl } }

@@ -17,8 +17,10 @@ use Rattle.reader.specs.Reader.{lastOf, whichOf, lookedUp}
 use Rattle.source.specs.declared.Chosen.{Chosen}
 use Rattle.source.specs.declared.Chosen.the-variants as chosen
 use Rattle.source.specs.declared.Counts.{Counts}
-use Rattle.source.specs.Source.{Choice, found, stoodIn, nothing, Source, choiceOf, fontSource}
-use Rattle.source.specs.Counting.{isStoodIn, isNothing, isMissing, one, howMany, countsOf, counted}
+use Rattle.records.specs.declared.Head.{Head}
+use Rattle.records.specs.Letters.{Letter, letter, noLetter}
+use Rattle.source.specs.Source.{Choice, found, stoodIn, nothing, Source, choiceOf, fontSource, packLetter, ofLetters, packSource}
+use Rattle.source.specs.Counting.{isStoodIn, isNothing, isMissing, one, howMany, countsOf, counted, StandsIn}
 use Rattle.source.specs.Steps.{ChosenAs}
 
 -- Two counts, each known.
@@ -91,6 +93,12 @@ module _ (source : Source) where
   unfolding countsOf
   none-stood-in n cs e z = same-counts _ _ _ _ (sym z) (omega (arith, e, z, missing-both cs))
 
+  -- a group that no code is in
+  pub none-of : (group : Choice → Bool) → ((c : Code) → group (source c) ≡ false) → (cs : List Code) → howMany group source cs ≡ 0
+  unfolding howMany
+  none-of group never [] = refl
+  none-of group never (c ∷ cs) = omega (arith, ap one (never c), none-of group never cs)
+
   -- each code is in one group at the most
   one-group : (x : Choice) → one (isStoodIn x) + one (isNothing x) ≤ 1
   one-group (found c) = omega arith
@@ -108,11 +116,6 @@ module _ (source : Source) where
 
 -- Of a font's text at most one of the two counts is not 0: a font has a code 0, which stands in for all that it lacks, or has none.
 module _ (s : List ℕ) (es : List Entry) where
-  none-of : (group : Choice → Bool) → ((c : Code) → group (fontSource s es c) ≡ false) → (cs : List Code) → howMany group (fontSource s es) cs ≡ 0
-  unfolding howMany
-  none-of group never [] = refl
-  none-of group never (c ∷ cs) = omega (arith, ap one (never c), none-of group never cs)
-
   abbrev zeroth : Use
   zeroth = lastOf (pos 0) es
 
@@ -126,11 +129,11 @@ module _ (s : List ℕ) (es : List Entry) where
 
   pub without-code-0 : zeroth ≡ use-is.Nothing → (cs : List Code) → howMany isStoodIn (fontSource s es) cs ≡ 0
   unfolding fontSource lookedUp
-  without-code-0 p = none-of isStoodIn (λ c. ap (λ (z : Use). isStoodIn (choiceOf s (whichOf (lastOf (c .0) es) z))) p ∙ no-stand-in (lastOf (c .0) es))
+  without-code-0 p = none-of (fontSource s es) isStoodIn (λ c. ap (λ (z : Use). isStoodIn (choiceOf s (whichOf (lastOf (c .0) es) z))) p ∙ no-stand-in (lastOf (c .0) es))
 
   pub with-code-0 : (e : Entry) → zeroth ≡ use-is.Used e → (cs : List Code) → howMany isNothing (fontSource s es) cs ≡ 0
   unfolding fontSource lookedUp
-  with-code-0 e p = none-of isNothing (λ c. ap (λ (z : Use). isNothing (choiceOf s (whichOf (lastOf (c .0) es) z))) p ∙ no-gap (lastOf (c .0) es) e)
+  with-code-0 e p = none-of (fontSource s es) isNothing (λ c. ap (λ (z : Use). isNothing (choiceOf s (whichOf (lastOf (c .0) es) z))) p ∙ no-gap (lastOf (c .0) es) e)
 
   pub never-both : (cs : List Code) → (countsOf (fontSource s es) cs .«stood_in» ≡ 0) ⊎ (countsOf (fontSource s es) cs .«nothing_drawn» ≡ 0)
   unfolding countsOf
@@ -139,3 +142,21 @@ module _ (s : List ℕ) (es : List Entry) where
       go : (z : Use) → zeroth ≡ z → (howMany isStoodIn (fontSource s es) cs ≡ 0) ⊎ (howMany isNothing (fontSource s es) cs ≡ 0)
       go use-is.Nothing p = inl (without-code-0 p cs)
       go (use-is.Used e) p = inr (with-code-0 e p cs)
+
+-- The same of a pack's text: a pack has a letter with code 0, or has none.
+module _ (f : Head) (rs : List (List ℕ)) where
+  no-zeroth : (own : Letter) → isStoodIn (ofLetters own noLetter) ≡ false
+  no-zeroth (letter w rows) = refl
+  no-zeroth noLetter = refl
+
+  some-zeroth : (own : Letter) (w : ℕ) (rows : List ℕ) → isNothing (ofLetters own (letter w rows)) ≡ false
+  some-zeroth (letter v q) w rows = refl
+  some-zeroth noLetter w rows = refl
+
+  pub pack-without-0 : packLetter f rs (pos 0) ≡ noLetter → StandsIn false (packSource f rs)
+  unfolding packSource
+  pack-without-0 e = none-of (packSource f rs) isStoodIn (λ c. ap (λ (z : Letter). isStoodIn (ofLetters (packLetter f rs (c .0)) z)) e ∙ no-zeroth (packLetter f rs (c .0)))
+
+  pub pack-with-0 : (w : ℕ) (rows : List ℕ) → packLetter f rs (pos 0) ≡ letter w rows → StandsIn true (packSource f rs)
+  unfolding packSource
+  pack-with-0 w rows e = none-of (packSource f rs) isNothing (λ c. ap (λ (z : Letter). isNothing (ofLetters (packLetter f rs (c .0)) z)) e ∙ some-zeroth (packLetter f rs (c .0)) w rows)

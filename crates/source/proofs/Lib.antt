@@ -2,4 +2,5 @@
 pub mod MarkLaws
 pub mod CountLaws
 pub mod CharacterLaws
+pub mod PackLaws
 pub mod HeldLaws

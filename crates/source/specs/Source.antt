@@ -1,15 +1,20 @@
--- Where the characters of a drawing come from: for each code, which character it is.
+-- Where the characters of a drawing come from: for each code, which character it is, by a font or by a pack.
 -- Assumes nothing.
 use Prim.Native.Nat.{ℕ, _+_}
+use mathlib.Core.Bool.{cond}
 use mathlib.Core.List.{List}
+use lib.IntN.{ℤ, pos}
 use lib.ListN.{getD}
 use Rattle.subchars.specs.declared.Code.{Code}
-use Rattle.join.specs.Join.{Block}
+use Rattle.join.specs.Join.{Block, exactBlock}
 use Rattle.lines.specs.Lines.{after}
 use Rattle.chars.specs.declared.Entry.{Entry}
 use Rattle.reader.specs.declared.LookedUp.{LookedUp}
 use Rattle.reader.specs.declared.LookedUp.the-variants.{Found, StoodIn, Nothing}
 use Rattle.reader.specs.Reader.{lookedUp}
+use Rattle.records.specs.declared.Head.{Head}
+use Rattle.records.specs.Codes.{bitsOf, isCode}
+use Rattle.records.specs.Letters.{Letter, letter, noLetter, letterIn}
 
 -- A code's own character, with its width and rows; the one that stands in for it; or nothing.
 pub data Choice : Type 0 where
@@ -32,3 +37,16 @@ choiceOf s Nothing = nothing
 
 unfoldable pub fontSource : List ℕ → List Entry → Source
 fontSource s es c = choiceOf s (lookedUp c es)
+
+-- The letter that a pack's records have for a code: 02, Q-6, "the code in four bytes".
+unfoldable pub packLetter : Head → List (List ℕ) → ℤ → Letter
+packLetter f rs z = cond (isCode z) (letterIn f (bitsOf z) rs) noLetter
+
+-- A letter as a character: its rows lie one after another. The code's own, or else that of code 0, which stands in.
+abbrev pub ofLetters : Letter → Letter → Choice
+ofLetters (letter w rows) zeroth = found (exactBlock w rows)
+ofLetters noLetter (letter w rows) = stoodIn (exactBlock w rows)
+ofLetters noLetter noLetter = nothing
+
+unfoldable pub packSource : Head → List (List ℕ) → Source
+packSource f rs c = ofLetters (packLetter f rs (c .0)) (packLetter f rs (pos 0))

@@ -1,15 +1,19 @@
 -- The character that was chosen for a code: its width, and where its rows start in the bytes of its source.
 -- Assumes nothing.
 use mathlib.Core.Path.{_≡_}
-use Prim.Native.Nat.{ℕ, _+_, _<_, _≤_}
-use mathlib.Core.Bool.{true, false}
+use Prim.Native.Nat.{ℕ, _+_, _*_, _<_, _≤_}
+use mathlib.Core.Bool.{Bool, true, false}
 use mathlib.Core.List.{List}
-use lib.ListN.{length, getD}
-use Rattle.ground.specs.Limits.{maxFontLength}
-use Rattle.join.specs.Join.{Block}
+use lib.ListN.{length, take, drop, getD}
+use Rattle.ground.specs.Limits.{maxFontLength, maxHeight, maxPackLength}
+use Rattle.join.specs.Join.{Block, exactBlock}
 use Rattle.join.specs.Writing.{Like}
 use Rattle.figure.specs.Scratch.{characterAt, RowsIn}
 use Rattle.lines.specs.Lines.{lineEnd, after}
+use Rattle.records.specs.declared.Head.{Head}
+use Rattle.records.specs.declared.Place.{Place}
+use Rattle.records.specs.declared.Place.the-variants.{At, Nowhere}
+use Rattle.records.specs.Versions.{recordHeadLength}
 use Rattle.source.specs.declared.Chosen.{Chosen}
 use Rattle.source.specs.declared.Chosen.the-variants.{Character, Nothing}
 use Rattle.source.specs.Source.{Choice, found, stoodIn, nothing}
@@ -41,3 +45,14 @@ ChosenAs s starts h (Character w false) nothing = ⊥
 ChosenAs s starts h Nothing (found b) = ⊥
 ChosenAs s starts h Nothing (stoodIn b) = ⊥
 ChosenAs s starts h Nothing nothing = Unit
+
+-- A record that starts at a place is within the bytes of a pack.
+abbrev pub PlaceIn : Head → List ℕ → Place → Type 0
+PlaceIn f s (At p w) = (0 < f .height) × (f .height ≤ maxHeight) × (p + (recordHeadLength (f .version) + f .height * w) ≤ length s) × (length s ≤ maxPackLength)
+PlaceIn f s Nowhere = Unit
+
+-- The letter of that record as a character, which is the code's own or stands in.
+abbrev pub letterChoice : Head → List ℕ → Bool → Place → Choice
+letterChoice f s true (At p w) = found (exactBlock w (take (f .height * w) (drop (p + recordHeadLength (f .version)) s)))
+letterChoice f s false (At p w) = stoodIn (exactBlock w (take (f .height * w) (drop (p + recordHeadLength (f .version)) s)))
+letterChoice f s own Nowhere = nothing

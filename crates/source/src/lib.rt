@@ -1,4 +1,6 @@
-// Where the characters of a drawing come from: a font read into lists, and the character that it has for a code.
+// Where the characters of a drawing come from, a font or a pack that was read into lists, and the character that it has for a code.
+pub mod packs;
+
 use index::latest;
 use lines::Cursor;
 use lines::LineStep;
@@ -16,9 +18,15 @@ ghost use Rattle.subchars.specs.declared.Code.{Code};
 ghost use Rattle.index.specs.Index.{CharacterRoom};
 ghost use Rattle.index.specs.Latest.{smallCodes};
 ghost use Rattle.source.specs.Source.{Choice, Source};
-ghost use Rattle.source.specs.Counting.{isMissing, one, howMany, countsOf};
-ghost use Rattle.source.specs.Held.{FontHeldBy, Gives};
+ghost use Rattle.source.specs.Counting.{isMissing, one, howMany, countsOf, StandsIn};
+ghost use Rattle.source.specs.Held.{FontHeldBy, FontGives, Gives};
 ghost use Rattle.source.specs.Steps.{Standing, RowPlaces, ChosenAs};
+
+// What the bytes of a source are: a font, of which the lists hold so many characters, or a pack.
+pub enum Origin {
+    Font { count: usize },
+    Pack,
+}
 
 // What is drawn for a code: a character of the given width, which is the code's own or stands in for it; or nothing.
 pub enum Chosen {
@@ -48,9 +56,8 @@ pub fn count_missing(missing: usize, chosen: Chosen) -> usize
     }
 }
 
-// The counts of a text of which so many codes are not in the source: it stands in for all of them, or for none.
-pub fn counts_of(
-    missing: usize,
+// Whether a font has a character with code 0, which stands in for every code that it lacks.
+fn font_stands_in(
     font: &[u8],
     height: usize,
     count: usize,
@@ -58,19 +65,60 @@ pub fn counts_of(
     starts: &[usize],
     widths: &[usize],
     places: &[usize],
-) -> Counts
-    requires { ⌜ ((source : Source) × Gives source (now font) height count (now codes) (now starts) (now widths) (now places)) ⌝ }
-    ensures { λ r. ⌜ ((source : Source) → Gives source (now (font .entry)) height count (now (codes .entry)) (now (starts .entry)) (now (widths .entry)) (now (places .entry)) → (text : List Code) → missing ≡ howMany isMissing source text → r ≡ countsOf source text) ⌝ }
+) -> bool
+    requires { ⌜ ((source : Source) × FontGives source (now font) height count (now codes) (now starts) (now widths) (now places)) ⌝ }
+    ensures { λ r. ⌜ ((source : Source) → FontGives source (now (font .entry)) height count (now (codes .entry)) (now (starts .entry)) (now (widths .entry)) (now (places .entry)) → StandsIn r source) ⌝ }
 {
     match reader::find_known(codes, starts, widths, count, places, Code(0)) {
-        Use::Used(_) => Counts {
+        Use::Used(_) => true,
+        Use::Nothing => false,
+    }
+}
+
+// Whether a source has a character with code 0.
+fn stands_in(
+    font: &[u8],
+    height: usize,
+    origin: Origin,
+    codes: &[i32],
+    starts: &[usize],
+    widths: &[usize],
+    places: &[usize],
+) -> bool
+    requires { ⌜ ((source : Source) × Gives source (now font) height origin (now codes) (now starts) (now widths) (now places)) ⌝ }
+    ensures { λ r. ⌜ ((source : Source) → Gives source (now (font .entry)) height origin (now (codes .entry)) (now (starts .entry)) (now (widths .entry)) (now (places .entry)) → StandsIn r source) ⌝ }
+{
+    match origin {
+        Origin::Font { count } => {
+            font_stands_in(font, height, count, codes, starts, widths, places)
+        }
+        Origin::Pack => packs::stands_in(font, height, starts, widths),
+    }
+}
+
+// The counts of a text of which so many codes are not in the source: it stands in for all of them, or for none.
+pub fn counts_of(
+    missing: usize,
+    font: &[u8],
+    height: usize,
+    origin: Origin,
+    codes: &[i32],
+    starts: &[usize],
+    widths: &[usize],
+    places: &[usize],
+) -> Counts
+    requires { ⌜ ((source : Source) × Gives source (now font) height origin (now codes) (now starts) (now widths) (now places)) ⌝ }
+    ensures { λ r. ⌜ ((source : Source) → Gives source (now (font .entry)) height origin (now (codes .entry)) (now (starts .entry)) (now (widths .entry)) (now (places .entry)) → (text : List Code) → missing ≡ howMany isMissing source text → r ≡ countsOf source text) ⌝ }
+{
+    if stands_in(font, height, origin, codes, starts, widths, places) {
+        return Counts {
             stood_in: missing,
             nothing_drawn: 0,
-        },
-        Use::Nothing => Counts {
-            stood_in: 0,
-            nothing_drawn: missing,
-        },
+        };
+    }
+    Counts {
+        stood_in: 0,
+        nothing_drawn: missing,
     }
 }
 
@@ -121,8 +169,8 @@ fn find_rows(font: &[u8], start: usize, width: usize, h: usize, rows: &mut [usiz
     }
 }
 
-// The character that is drawn for a code, of the given height; where its rows start is written into a lent list.
-pub fn choose(
+// The character that a font has for a code; where its rows start is written into a lent list.
+fn choose_entry(
     code: Code,
     font: &[u8],
     height: usize,
@@ -133,9 +181,9 @@ pub fn choose(
     places: &[usize],
     found: &mut [usize],
 ) -> Chosen
-    requires { ⌜ ((source : Source) × Gives source (now font) height count (now codes) (now starts) (now widths) (now places)) ⌝ }
+    requires { ⌜ ((source : Source) × FontGives source (now font) height count (now codes) (now starts) (now widths) (now places)) ⌝ }
     requires { ⌜ maxHeight ≤ length (now found) ⌝ }
-    ensures { λ r. ⌜ ((source : Source) → Gives source (now (font .entry)) height count (now (codes .entry)) (now (starts .entry)) (now (widths .entry)) (now (places .entry)) → ChosenAs (now (font .entry)) (now (found .exit)) height r (source code)) ⌝ }
+    ensures { λ r. ⌜ ((source : Source) → FontGives source (now (font .entry)) height count (now (codes .entry)) (now (starts .entry)) (now (widths .entry)) (now (places .entry)) → ChosenAs (now (font .entry)) (now (found .exit)) height r (source code)) ⌝ }
 {
     match reader::find_known(codes, starts, widths, count, places, code) {
         Use::Used(entry) => {
@@ -146,6 +194,38 @@ pub fn choose(
             Chosen::Character { width, own }
         }
         Use::Nothing => Chosen::Nothing,
+    }
+}
+
+// The character that is drawn for a code, of the given height; where its rows start is written into a lent list.
+pub fn choose(
+    code: Code,
+    font: &[u8],
+    height: usize,
+    origin: Origin,
+    codes: &[i32],
+    starts: &[usize],
+    widths: &[usize],
+    places: &[usize],
+    found: &mut [usize],
+) -> Chosen
+    requires { ⌜ ((source : Source) × Gives source (now font) height origin (now codes) (now starts) (now widths) (now places)) ⌝ }
+    requires { ⌜ maxHeight ≤ length (now found) ⌝ }
+    ensures { λ r. ⌜ ((source : Source) → Gives source (now (font .entry)) height origin (now (codes .entry)) (now (starts .entry)) (now (widths .entry)) (now (places .entry)) → ChosenAs (now (font .entry)) (now (found .exit)) height r (source code)) ⌝ }
+{
+    match origin {
+        Origin::Font { count } => choose_entry(
+            code,
+            font,
+            height,
+            count,
+            codes,
+            starts,
+            widths,
+            places,
+            found,
+        ),
+        Origin::Pack => packs::choose_letter(code, font, height, starts, widths, found),
     }
 }
 

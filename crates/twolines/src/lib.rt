@@ -8,6 +8,7 @@ use header::Given;
 use header::Header;
 use index::latest;
 use source::Counts;
+use source::Origin;
 use stack::Placed;
 use stack::StackAnswer;
 use stack::stacking;
@@ -138,7 +139,7 @@ fn join_both(
     mode: Mode,
     height: usize,
     font: &[u8],
-    count: usize,
+    origin: Origin,
     codes: &[i32],
     starts: &[usize],
     widths: &[usize],
@@ -149,10 +150,10 @@ fn join_both(
     lasts: &[i32],
     news: &[i32],
 ) -> DrawnTexts
-    requires { ⌜ ((source : Source) × Gives source (now font) height count (now codes) (now starts) (now widths) (now places)) ⌝ }
+    requires { ⌜ ((source : Source) × Gives source (now font) height origin (now codes) (now starts) (now widths) (now places)) ⌝ }
     requires { ⌜ ((control : List ℕ) × ControlHeld control commands (now stages) (now firsts) (now lasts) (now news)) ⌝ }
     requires { ⌜ minStackedScratch ≤ length (now scratch) ⌝ }
-    ensures { λ d. ⌜ ((source : Source) (given : Gives source (now (font .entry)) height count (now (codes .entry)) (now (starts .entry)) (now (widths .entry)) (now (places .entry))) (control : List ℕ) (held : ControlHeld control commands (now (stages .entry)) (now (firsts .entry)) (now (lasts .entry)) (now (news .entry))) → BothDrawn mode height source (textCodes (held .commands) (held .count) (now (upper .entry))) (textCodes (held .commands) (held .count) (now (lower .entry))) d (now (scratch .exit))) ⌝ }
+    ensures { λ d. ⌜ ((source : Source) (given : Gives source (now (font .entry)) height origin (now (codes .entry)) (now (starts .entry)) (now (widths .entry)) (now (places .entry))) (control : List ℕ) (held : ControlHeld control commands (now (stages .entry)) (now (firsts .entry)) (now (lasts .entry)) (now (news .entry))) → BothDrawn mode height source (textCodes (held .commands) (held .count) (now (upper .entry))) (textCodes (held .commands) (held .count) (now (lower .entry))) d (now (scratch .exit))) ⌝ }
 {
     let half = limits::MIN_SCRATCH;
     let most = limits::MAX_LINE_WIDTH;
@@ -163,7 +164,7 @@ fn join_both(
         mode,
         height,
         font,
-        count,
+        origin,
         codes,
         starts,
         widths,
@@ -181,7 +182,7 @@ fn join_both(
         mode,
         height,
         font,
-        count,
+        origin,
         codes,
         starts,
         widths,
@@ -203,20 +204,20 @@ fn count_both(
     drawn: DrawnTexts,
     font: &[u8],
     height: usize,
-    count: usize,
+    origin: Origin,
     codes: &[i32],
     starts: &[usize],
     widths: &[usize],
     places: &[usize],
 ) -> Counts
-    requires { ⌜ ((source : Source) × Gives source (now font) height count (now codes) (now starts) (now widths) (now places)) ⌝ }
+    requires { ⌜ ((source : Source) × Gives source (now font) height origin (now codes) (now starts) (now widths) (now places)) ⌝ }
     requires { ⌜ (drawn .upper .missing ≤ maxText) × (drawn .lower .missing ≤ maxText) ⌝ }
-    ensures { λ n. ⌜ ((source : Source) → Gives source (now (font .entry)) height count (now (codes .entry)) (now (starts .entry)) (now (widths .entry)) (now (places .entry)) → (mode : Mode) (us ls : List Code) (scratch : List ℕ) → BothDrawn mode height source us ls drawn scratch → BothCounted source us ls drawn n) ⌝ }
+    ensures { λ n. ⌜ ((source : Source) → Gives source (now (font .entry)) height origin (now (codes .entry)) (now (starts .entry)) (now (widths .entry)) (now (places .entry)) → (mode : Mode) (us ls : List Code) (scratch : List ℕ) → BothDrawn mode height source us ls drawn scratch → BothCounted source us ls drawn n) ⌝ }
 {
     let a = drawn.upper;
     let b = drawn.lower;
     let missing = a.missing + b.missing;
-    source::counts_of(missing, font, height, count, codes, starts, widths, places)
+    source::counts_of(missing, font, height, origin, codes, starts, widths, places)
 }
 
 // Draws two texts by a font and a control file that were read: 15 and 16 of either, then 9.
@@ -252,6 +253,7 @@ fn draw_texts(
     let mode = drawing::mode_of(header);
     let height = header.height;
     let full = header.full_layout;
+    let origin = Origin::Font { count };
     let drawn = join_both(
         scratch,
         upper,
@@ -259,7 +261,7 @@ fn draw_texts(
         mode,
         height,
         font,
-        count,
+        origin,
         codes,
         starts,
         widths,
@@ -270,7 +272,7 @@ fn draw_texts(
         lasts,
         news,
     );
-    let counts = count_both(drawn, font, height, count, codes, starts, widths, places);
+    let counts = count_both(drawn, font, height, origin, codes, starts, widths, places);
     put_lines(out, scratch, drawn, counts, mode, vertical_of(full), height)
 }
 

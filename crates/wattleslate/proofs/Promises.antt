@@ -14,10 +14,10 @@ use lib.Signed.{leZ}
 use lib.Dec.{eqb, ltb, leb}
 use lib.ListN.{length, getD, take, drop, replicate}
 use borrow.Author.Tests.{eq-eqb, ne-eqb}
-use Rattle.ground.specs.Area.{zeros}
+use Rattle.ground.specs.Area.{zeros, padded}
 use Rattle.ground.specs.Text.{byte, bytes, among}
-use Rattle.ground.specs.Limits.{maxFontLength, maxControlFile, maxText, maxLineWidth, maxHeight, maxStackHeight, maxCharacters, maxCommands, minLines, minScratch, minStackedScratch, maxCharacterWidth, maxRules, maxStages}
-use Rattle.ground.specs.Refusals.{refusal, fontTooLong, noSignature, badHardblank, badParameters, tooManyCharacters, areaTooSmall, controlFileTooLong, notACommand, badRanges, extendedCommand, tooManyCommands, textTooLong, lineTooWide, badShape, stackTooHigh, characterTooWide, missingLine, badRow, badCodeTag}
+use Rattle.ground.specs.Limits.{maxFontLength, maxControlFile, maxText, maxLineWidth, maxHeight, maxStackHeight, maxCharacters, maxCommands, minLines, minScratch, minStackedScratch, maxCharacterWidth, maxRules, maxStages, maxPackLength, minPackLength}
+use Rattle.ground.specs.Refusals.{refusal, fontTooLong, noSignature, badHardblank, badParameters, tooManyCharacters, areaTooSmall, controlFileTooLong, notACommand, badRanges, extendedCommand, tooManyCommands, textTooLong, lineTooWide, badShape, stackTooHigh, characterTooWide, missingLine, badRow, badCodeTag, damagedPack, codePresent, codeAbsent, noRoom}
 use Rattle.ground.specs.Runs.{run, all, begins}
 use Rattle.ground.specs.declared.refusals.Refusal.{Refusal}
 use Rattle.ground.proofs.Tests.{clash}
@@ -127,8 +127,8 @@ use Rattle.flc.proofs.TableLaws as control-rows
 use Rattle.flc.proofs.TableLaws.{Reaches}
 use Rattle.flc.proofs.MappingLaws as mapping
 use Rattle.flc.proofs.MappingLaws.{NoneFits}
-use Rattle.source.specs.Source.{Source, fontSource}
-use Rattle.drawing.specs.Drawing.{charactersOf, byteChoice, fontLine, fontCounts, lineOf, textCodes}
+use Rattle.source.specs.Source.{Source, fontSource, packSource}
+use Rattle.drawing.specs.Drawing.{charactersOf, byteChoice, fontLine, fontCounts, lineOf, textCodes, directionOf, Lined, drawLined, linedAnswer, bytesOf}
 use Rattle.drawing.specs.Steps.{withCharacter}
 use Rattle.drawing.proofs.Answers as drawing
 use Rattle.drawing.proofs.DrawingLaws as drawings
@@ -138,12 +138,12 @@ use Rattle.twolines.proofs.TableLaws as line-rows
 use Rattle.twolines.proofs.Bytes as line-bytes
 use Rattle.wrapping.specs.declared.WrapAnswer.{WrapAnswer}
 use Rattle.wrapping.specs.declared.WrapAnswer.the-variants as wrap-is
-use Rattle.wrapping.specs.Words.{isBreak, inWord, wordFrom, wordBehind, endsWord}
-use Rattle.wrapping.specs.Breaking.{Span, span, spanEnd, spansFrom, spansOf}
+use Rattle.breaks.specs.Words.{isBreak, inWord, wordFrom, wordBehind, endsWord}
+use Rattle.breaks.specs.Breaking.{Span, span, spanEnd, spansFrom, spansOf}
 use Rattle.wrapping.specs.Wrapping.{wideIn, drawings, choiceWidth, firstWider, Wrap, drawWrapped, wrapIn, wrapAnswer, wrapFirsts, wrapEnds, wrapOutput}
-use Rattle.wrapping.specs.Steps.{lastBehind}
+use Rattle.breaks.specs.Steps.{lastBehind}
 use Rattle.wrapping.proofs.Answers as wrap-answers
-use Rattle.wrapping.proofs.BreakingLaws as breaks
+use Rattle.breaks.proofs.BreakingLaws as breaks
 use Rattle.wrapping.proofs.TableLaws as wrap-rows
 use Rattle.wrapping.proofs.TextLines as text-lines
 use Rattle.wattleslate.specs.declared.RowRefusal.the-variants.{NotRefused, Refused}
@@ -158,6 +158,28 @@ use Rattle.wattleslate.proofs.MapCases as mappings
 use Rattle.wattleslate.proofs.DrawLaws as draw-calls
 use Rattle.wattleslate.proofs.RowLaws as row-calls
 use Rattle.wattleslate.proofs.Wiping as wiping
+use Rattle.font.specs.Font as font
+use Rattle.records.specs.declared.Head.{Head}
+use Rattle.records.specs.declared.Place.the-variants as place-is
+use Rattle.records.specs.Versions.{headLength, recordHeadLength, maxWidth}
+use Rattle.records.specs.Records.{isZero, live as liveByte, free as freeByte, minusOne, codeIn, widthIn, rowsIn, sizeIn, listing, noneTwice, hasLive, liveCount}
+use Rattle.records.specs.Steps.{placeIn}
+use Rattle.records.specs.Letters.{letter, noLetter}
+use Rattle.edits.specs.Changes as edits
+use Rattle.heads.specs.Pack as heads
+use Rattle.pack.specs.declared.PackAnswer.the-variants as pack-is
+use Rattle.pack.specs.declared.FindAnswer.{FindAnswer}
+use Rattle.pack.specs.declared.FindAnswer.the-variants as find-is
+use Rattle.pack.specs.declared.EditAnswer.{EditAnswer}
+use Rattle.pack.specs.declared.EditAnswer.the-variants as edit-is
+use Rattle.pack.specs.Calls as calls
+use Rattle.pack.proofs.Outcomes as outcomes
+use Rattle.pack.proofs.Theorems as pack-laws
+use Rattle.pack.proofs.DamageLaws as damage
+use Rattle.pack.proofs.TableLaws as pack-rows
+use Rattle.packdrawing.specs.PackDrawing.{packMode, packLined, MadeOf}
+use Rattle.packdrawing.proofs.Answers as pack-drawing
+use Rattle.packdrawing.proofs.FontAndPack as font-pack
 
 -- ================================================================ demand 1
 
@@ -1314,3 +1336,273 @@ module _ (hardblank left right : ℕ) (left-seen : left ≡ blank → ⊥) (righ
   -- and "equality of two \"other\" bytes is still tested beside it": unequal ones are joined by no rule.
   others-that-differ : kindOf hardblank right ≡ 14 → (left ≡ right → ⊥) → 0 ≡ rulesJoining hardblank left right
   others-that-differ = pair-table.pair-apart hardblank left right left-seen right-seen
+
+-- ================================================================ document 02, Q-6
+
+-- A pack that check accepts, its bytes s, says a head and records; a change was done, and its bytes are `new`.
+module _ (s new : List ℕ) (f : Head) (rs : List (List ℕ)) (accepted : heads.meaning s ≡ heads.says f rs) where
+  abbrev Removed : ℕ → Type 0
+  Removed code = calls.Changes (calls.removal (heads.meaning s) code) s edit-is.Done new
+
+  abbrev Put : ℕ → ℕ → List ℕ → Type 0
+  Put code width rows = calls.Changes (calls.insertion (heads.meaning s) (length s) code width rows) s edit-is.Done new
+
+  abbrev Compacted : Type 0
+  Compacted = calls.Changes (calls.compaction (heads.meaning s)) s edit-is.Done new
+
+  -- "Each change leaves a pack that check accepts": it says the records as they then are.
+  remove-leaves-a-pack : (code : ℕ) → Removed code → heads.meaning new ≡ heads.says f (edits.removed code rs)
+  remove-leaves-a-pack = outcomes.remove-outcome s new f rs accepted
+
+  put-leaves-a-pack : (code width : ℕ) (rows : List ℕ) → code < 4294967296 → Put code width rows → heads.meaning new ≡ heads.says f (edits.placed f width (edits.newRecord (f .version) code width rows) rs)
+  put-leaves-a-pack = outcomes.put-outcome s new f rs accepted
+
+  -- "Compact drops free records, keeps the live ones in order."
+  compact-leaves-the-live : Compacted → heads.meaning new ≡ heads.says f (edits.kept rs)
+  compact-leaves-the-live = outcomes.compact-outcome s new f rs accepted
+
+  -- Check accepts it, with the same height and the live records that it then has.
+  check-accepts-after-remove : (code : ℕ) → Removed code → calls.checkTold (heads.meaning new) ≡ pack-is.Accepted (f .height) (liveCount (edits.removed code rs))
+  check-accepts-after-remove code x = outcomes.check-accepts new f _ (remove-leaves-a-pack code x)
+
+  check-accepts-after-put : (code width : ℕ) (rows : List ℕ) → code < 4294967296 → Put code width rows → calls.checkTold (heads.meaning new) ≡ pack-is.Accepted (f .height) (liveCount (edits.placed f width (edits.newRecord (f .version) code width rows) rs))
+  check-accepts-after-put code width rows c x = outcomes.check-accepts new f _ (put-leaves-a-pack code width rows c x)
+
+  check-accepts-after-compact : Compacted → calls.checkTold (heads.meaning new) ≡ pack-is.Accepted (f .height) (liveCount (edits.kept rs))
+  check-accepts-after-compact x = outcomes.check-accepts new f _ (compact-leaves-the-live x)
+
+  -- "Find after put, remove and compact (the code itself, and every other code: same width and rows)."
+  removed-is-gone : (code : ℕ) → Removed code → calls.letterFound new code ≡ noLetter
+  removed-is-gone = outcomes.remove-itself s new f rs accepted
+
+  remove-keeps-others : (code d : ℕ) → (d ≡ code → ⊥) → Removed code → calls.letterFound new d ≡ calls.letterFound s d
+  remove-keeps-others = outcomes.remove-others s new f rs accepted
+
+  put-is-found : (code width : ℕ) (rows : List ℕ) → code < 4294967296 → Put code width rows → calls.letterFound new code ≡ letter width rows
+  put-is-found = outcomes.put-itself s new f rs accepted
+
+  put-keeps-others : (code width : ℕ) (rows : List ℕ) → code < 4294967296 → Put code width rows → (d : ℕ) → (d ≡ code → ⊥) → calls.letterFound new d ≡ calls.letterFound s d
+  put-keeps-others = outcomes.put-others s new f rs accepted
+
+  compact-keeps-all : (d : ℕ) → Compacted → calls.letterFound new d ≡ calls.letterFound s d
+  compact-keeps-all = outcomes.compact-every s new f rs accepted
+
+  -- "Remove changes only the 1 to 2."
+  remove-changes-one-byte : (code : ℕ) → Removed code → outcomes.OneByte s new f rs accepted
+  remove-changes-one-byte = outcomes.remove-one-byte s new f rs accepted
+
+  -- Put changes only the record that it writes.
+  put-writes-one-record : (code width : ℕ) (rows : List ℕ) → Put code width rows → outcomes.Written s new f rs accepted (edits.newRecord (f .version) code width rows)
+  put-writes-one-record = outcomes.put-written s new f rs accepted
+
+  -- No call changes the pack's length.
+  remove-keeps-the-length : (code : ℕ) → Removed code → length new ≡ length s
+  remove-keeps-the-length = outcomes.remove-length s new f rs accepted
+
+  put-keeps-the-length : (code width : ℕ) (rows : List ℕ) → Put code width rows → length new ≡ length s
+  put-keeps-the-length = outcomes.put-length s new f rs accepted
+
+  compact-keeps-the-length : Compacted → length new ≡ length s
+  compact-keeps-the-length = outcomes.compact-length s new f rs accepted
+
+-- "A refusal leaves a pack's bytes as they were lent", whatever change was asked.
+refusal-keeps-the-pack : (x : calls.Change) (s new : List ℕ) (r : Refusal) → calls.Changes x s (edit-is.Refused r) new → new ≡ s
+refusal-keeps-the-pack = outcomes.refusal-keeps
+
+-- "It has no room exactly when neither exists": of a good letter whose code is absent, 23 is given exactly when there is no free record of its width and the tail is too short.
+module _ (s : List ℕ) (f : Head) (rs : List (List ℕ)) (accepted : heads.meaning s ≡ heads.says f rs) (code width : ℕ) (rows : List ℕ) (good : calls.goodLetter f code width rows ≡ true) (absent : hasLive code rs ≡ false) where
+  no-room-is-23 : calls.hasRoom f (length s) width rs ≡ false → calls.insertion (heads.meaning s) (length s) code width rows ≡ calls.refused noRoom
+  no-room-is-23 = outcomes.no-room s f rs accepted code width rows good absent
+
+  room-is-taken : calls.hasRoom f (length s) width rs ≡ true → calls.insertion (heads.meaning s) (length s) code width rows ≡ calls.changed (edits.placed f width (edits.newRecord (f .version) code width rows) rs)
+  room-is-taken = outcomes.room s f rs accepted code width rows good absent
+
+-- "Damaged is whatever breaks this layout, a longer buffer, a repeated live code, code -1, a width over 199, a Height, hardblank or row byte that 01 refuses." Of a buffer s:
+module _ (s : List ℕ) where
+  -- What its first bytes say as a head, and the bytes behind it.
+  abbrev headSaid : Head
+  headSaid = heads.headIn s
+
+  abbrev recordBytes : List ℕ
+  recordBytes = drop (headLength (headSaid .version)) s
+
+  -- Where a record is due there stands no good one: it is "cut off by the buffer's end", begins with neither 1 nor 2, has code -1, a width over 199 or a row byte that is refused.
+  abbrev RecordBad : List ℕ → Type 0
+  RecordBad t =
+      (length t < recordHeadLength (headSaid .version)) ⊎
+      (((getD t 0 0 ≡ liveByte → ⊥) × (getD t 0 0 ≡ freeByte → ⊥)) ⊎ (codeIn t ≡ minusOne) ⊎ (maxWidth (headSaid .version) < widthIn headSaid t)) ⊎
+      (length t < sizeIn headSaid t) ⊎
+      (all (legalByte (headSaid .hardblank .0)) (rowsIn headSaid t) ≡ false)
+
+  -- The bytes behind some good records are not all zero and begin with no good one.
+  abbrev RecordsBroken : Type 0
+  RecordsBroken = (t : List ℕ) × damage.Behind headSaid recordBytes t × (all isZero t ≡ false) × RecordBad t
+
+  damaged-exactly-when :
+      heads.meaning s ≡ heads.damaged ↔
+      ((maxPackLength < length s) ⊎
+      (length s < minPackLength) ⊎
+      (heads.isMark (take minPackLength s) ≡ false) ⊎
+      ((heads.isVersion (headSaid .version) ≡ false) ⊎ (headSaid .height < 1) ⊎ (maxHeight < headSaid .height) ⊎ (legalHardblank (headSaid .hardblank .0) ≡ false)) ⊎
+      (length s < headLength (headSaid .version)) ⊎
+      RecordsBroken ⊎
+      (noneTwice (listing headSaid recordBytes .records) ≡ false))
+  damaged-exactly-when = damage.damaged-when s
+
+  -- Check: "20 damaged pack", at 0, and no other refusal; otherwise "height and how many live records".
+  refusals-of-pack-check : (r : Refusal) → calls.checkTold (heads.meaning s) ≡ pack-is.Refused r ↔ ((r .number ≡ damagedPack) × (r .place ≡ 0) × (heads.meaning s ≡ heads.damaged))
+  refusals-of-pack-check = pack-rows.check-row s
+
+  pack-check-otherwise : (h n : ℕ) → calls.checkTold (heads.meaning s) ≡ pack-is.Accepted h n ↔ ((f : Head) × (rs : List (List ℕ)) × (heads.meaning s ≡ heads.says f rs) × (h ≡ f .height) × (n ≡ liveCount rs))
+  pack-check-otherwise = pack-rows.check-accepted s
+
+  -- Compact: 20, at 0, and no other.
+  refusals-of-pack-compact : (r : Refusal) → calls.tells (calls.compaction (heads.meaning s)) ≡ edit-is.Refused r ↔ ((r .number ≡ damagedPack) × (r .place ≡ 0) × (heads.meaning s ≡ heads.damaged))
+  refusals-of-pack-compact = pack-rows.compact-row s
+
+  pack-compact-otherwise : calls.tells (calls.compaction (heads.meaning s)) ≡ edit-is.Done ↔ ((f : Head) × (rs : List (List ℕ)) × (heads.meaning s ≡ heads.says f rs))
+  pack-compact-otherwise = pack-rows.compact-done s
+
+  -- Find and remove: "20, 17 (code -1), 22", each at 0.
+  module _ (code : ℕ) where
+    abbrev Finds : FindAnswer → Type 0
+    Finds a = calls.findTold (heads.meaning s) code ≡ a
+
+    refusal-20-of-pack-find : (p : ℕ) → Finds (find-is.Refused (refusal damagedPack p)) ↔ ((p ≡ 0) × (heads.meaning s ≡ heads.damaged))
+    refusal-20-of-pack-find = pack-rows.find-20 s code
+
+    refusal-17-of-pack-find : (p : ℕ) → Finds (find-is.Refused (refusal badShape p)) ↔ ((p ≡ 0) × ((f : Head) × (rs : List (List ℕ)) × (heads.meaning s ≡ heads.says f rs) × (code ≡ minusOne)))
+    refusal-17-of-pack-find = pack-rows.find-17 s code
+
+    refusal-22-of-pack-find : (p : ℕ) → Finds (find-is.Refused (refusal codeAbsent p)) ↔ ((p ≡ 0) × ((f : Head) × (rs : List (List ℕ)) × (heads.meaning s ≡ heads.says f rs) × (code ≡ minusOne → ⊥) × (hasLive code rs ≡ false)))
+    refusal-22-of-pack-find = pack-rows.find-22 s code
+
+    -- Otherwise the place of the rows of its live record, and the width.
+    pack-find-otherwise : (p w : ℕ) →
+        Finds (find-is.Found p w) ↔
+        ((f : Head) × (rs : List (List ℕ)) × ((heads.meaning s ≡ heads.says f rs) × (code ≡ minusOne → ⊥) × (hasLive code rs ≡ true)) × (at : ℕ) ×
+        (placeIn f code (headLength (f .version)) rs ≡ place-is.At at w) × (p ≡ at + recordHeadLength (f .version)))
+    pack-find-otherwise = pack-rows.find-found s code
+
+    abbrev Removes : EditAnswer → Type 0
+    Removes a = calls.tells (calls.removal (heads.meaning s) code) ≡ a
+
+    refusal-20-of-pack-remove : (p : ℕ) → Removes (edit-is.Refused (refusal damagedPack p)) ↔ ((p ≡ 0) × (heads.meaning s ≡ heads.damaged))
+    refusal-20-of-pack-remove = pack-rows.remove-20 s code
+
+    refusal-17-of-pack-remove : (p : ℕ) → Removes (edit-is.Refused (refusal badShape p)) ↔ ((p ≡ 0) × ((f : Head) × (rs : List (List ℕ)) × (heads.meaning s ≡ heads.says f rs) × (code ≡ minusOne)))
+    refusal-17-of-pack-remove = pack-rows.remove-17 s code
+
+    refusal-22-of-pack-remove : (p : ℕ) → Removes (edit-is.Refused (refusal codeAbsent p)) ↔ ((p ≡ 0) × ((f : Head) × (rs : List (List ℕ)) × (heads.meaning s ≡ heads.says f rs) × (code ≡ minusOne → ⊥) × (hasLive code rs ≡ false)))
+    refusal-22-of-pack-remove = pack-rows.remove-22 s code
+
+    pack-remove-otherwise : Removes edit-is.Done ↔ ((f : Head) × (rs : List (List ℕ)) × ((heads.meaning s ≡ heads.says f rs) × (code ≡ minusOne → ⊥) × (hasLive code rs ≡ true)))
+    pack-remove-otherwise = pack-rows.remove-done s code
+
+  -- Put: 20, 17, 21, 23, each at 0.
+  module _ (code width : ℕ) (rows : List ℕ) where
+    abbrev Puts : EditAnswer → Type 0
+    Puts a = calls.tells (calls.insertion (heads.meaning s) (length s) code width rows) ≡ a
+
+    -- "17 for .. code -1 or a letter of such a width or row byte or not Height times width long".
+    abbrev LetterBad : Head → Type 0
+    LetterBad f = (code ≡ minusOne) ⊎ (maxWidth (f .version) < width) ⊎ (all (legalByte (f .hardblank .0)) rows ≡ false) ⊎ (length rows ≡ f .height * width → ⊥)
+
+    -- Where the record would end behind the last one.
+    abbrev endBehind : Head → List (List ℕ) → ℕ
+    endBehind f rs = headLength (f .version) + length (edits.joined rs) + (recordHeadLength (f .version) + f .height * width)
+
+    refusal-20-of-pack-put : (p : ℕ) → Puts (edit-is.Refused (refusal damagedPack p)) ↔ ((p ≡ 0) × (heads.meaning s ≡ heads.damaged))
+    refusal-20-of-pack-put = pack-rows.put-20 s code width rows
+
+    refusal-17-of-pack-put : (p : ℕ) → Puts (edit-is.Refused (refusal badShape p)) ↔ ((p ≡ 0) × ((f : Head) × (rs : List (List ℕ)) × (heads.meaning s ≡ heads.says f rs) × LetterBad f))
+    refusal-17-of-pack-put = pack-rows.put-17 s code width rows
+
+    refusal-21-of-pack-put : (p : ℕ) → Puts (edit-is.Refused (refusal codePresent p)) ↔ ((p ≡ 0) × ((f : Head) × (rs : List (List ℕ)) × (heads.meaning s ≡ heads.says f rs) × (LetterBad f → ⊥) × (hasLive code rs ≡ true)))
+    refusal-21-of-pack-put = pack-rows.put-21 s code width rows
+
+    -- "It has no room exactly when neither exists": a free record of the width, or a tail that the record fits.
+    refusal-23-of-pack-put : (p : ℕ) →
+        Puts (edit-is.Refused (refusal noRoom p)) ↔
+        ((p ≡ 0) × ((f : Head) × (rs : List (List ℕ)) × (heads.meaning s ≡ heads.says f rs) × (LetterBad f → ⊥) × (hasLive code rs ≡ false) × ((edits.hasFree f width rs ≡ false) × (length s < endBehind f rs))))
+    refusal-23-of-pack-put = pack-rows.put-23 s code width rows
+
+    pack-put-otherwise :
+        Puts edit-is.Done ↔
+        ((f : Head) × (rs : List (List ℕ)) × (heads.meaning s ≡ heads.says f rs) × (LetterBad f → ⊥) × (hasLive code rs ≡ false) × ((edits.hasFree f width rs ≡ true) ⊎ (endBehind f rs ≤ length s)))
+    pack-put-otherwise = pack-rows.put-done s code width rows
+
+-- "After it put has room whenever the record fits behind them", and only then.
+room-after-compact : (f : Head) (size width : ℕ) (rs : List (List ℕ)) → calls.hasRoom f size width (edits.kept rs) ≡ leb (headLength (f .version) + length (edits.joined (edits.kept rs)) + (recordHeadLength (f .version) + f .height * width)) size
+room-after-compact = pack-laws.compact-room
+
+-- "Drawing from a pack takes layout and direction with the call; with a font's own it equals drawing from that font": the answer and the bytes, for every control file and text and for areas of every size.
+module _ (s : List ℕ) (h : Header) (es : List Entry) (font-read : font.reading s ≡ font.says h es) (t : List ℕ) (f : Head) (rs : List (List ℕ)) (accepted : heads.meaning t ≡ heads.says f rs) (made : MadeOf s h es f rs) where
+  pack-draws-as-its-font : (scratch : ℕ) (control text : List ℕ) (room : ℕ) →
+      (linedAnswer (drawLined scratch s control text) room ≡ linedAnswer (packLined scratch t (h .layout) (directionOf (h .«print_direction»)) control text) room) ×
+      (bytesOf (drawLined scratch s control text) room ≡ bytesOf (packLined scratch t (h .layout) (directionOf (h .«print_direction»)) control text) room)
+  pack-draws-as-its-font = font-pack.font-and-pack s h es font-read t f rs accepted made
+
+-- Drawing from a pack t: "9 (scratch), 20, 17 (layout of bad shape), the control file's, 15, .. 16, 9 (out)".
+module _ (size : ℕ) (t : List ℕ) (layout : Layout) (direction : Direction) (control text : List ℕ) (room : ℕ) where
+  -- "17 for a layout of bad shape": "rules outside 1 to 63 in controlled mode".
+  abbrev LayoutBad : Type 0
+  LayoutBad = (rules : ℕ) × (layout ≡ Smushing (Controlled rules)) × ((rules < 1) ⊎ (maxRules < rules))
+
+  -- The scratch is large enough, the pack says this, and the layout is of good shape;
+  abbrev PackSays : Head → List (List ℕ) → Type 0
+  PackSays f rs = (minScratch ≤ size) × (heads.meaning t ≡ heads.says f rs) × (LayoutBad → ⊥)
+
+  -- and the control file says this.
+  abbrev PackFilesSay : Head → List (List ℕ) → List Command → ℕ → Type 0
+  PackFilesSay f rs cs k = PackSays f rs × (flc.control control ≡ flc.reads cs k)
+
+  -- The line of the text by what they say.
+  abbrev packLineFor : Head → List (List ℕ) → List Command → ℕ → Block
+  packLineFor f rs cs k = lineOf (packMode f layout direction) (f .height) (packSource f rs) (textCodes cs k text)
+
+  abbrev packDrawn : Lined
+  packDrawn = packLined size t layout direction control text
+
+  abbrev PackDraws : DrawAnswer → Type 0
+  PackDraws a = linedAnswer packDrawn room ≡ a
+
+  refusal-20-of-draw-pack : (p : ℕ) → PackDraws (draw-is.Refused (refusal damagedPack p)) ↔ ((p ≡ 0) × (minScratch ≤ size) × (heads.meaning t ≡ heads.damaged))
+  refusal-20-of-draw-pack = pack-drawing.row-20 size t layout direction control text room
+
+  refusal-17-of-draw-pack : (p : ℕ) → PackDraws (draw-is.Refused (refusal badShape p)) ↔ ((p ≡ 0) × (minScratch ≤ size) × (f : Head) × (rs : List (List ℕ)) × (heads.meaning t ≡ heads.says f rs) × LayoutBad)
+  refusal-17-of-draw-pack = pack-drawing.row-17 size t layout direction control text room
+
+  control-refusals-of-draw-pack : (r : Refusal) → controlFileTooLong ≤ r .number → r .number ≤ tooManyCommands →
+      PackDraws (draw-is.Refused r) ↔ ((f : Head) × (rs : List (List ℕ)) × PackSays f rs × (flc.control control ≡ flc.refuses r))
+  control-refusals-of-draw-pack = pack-drawing.row-control size t layout direction control text room
+
+  refusal-15-of-draw-pack : (p : ℕ) →
+      PackDraws (draw-is.Refused (refusal textTooLong p)) ↔
+      ((p ≡ 0) × (f : Head) × (rs : List (List ℕ)) × (cs : List Command) × (k : ℕ) × (PackFilesSay f rs cs k) × (maxText < length text))
+  refusal-15-of-draw-pack = pack-drawing.row-15 size t layout direction control text room
+
+  refusal-16-of-draw-pack : (p : ℕ) →
+      PackDraws (draw-is.Refused (refusal lineTooWide p)) ↔
+      ((p ≡ 0) × (f : Head) × (rs : List (List ℕ)) × (cs : List Command) × (k : ℕ) × (PackFilesSay f rs cs k) × (length text ≤ maxText) × (maxLineWidth < packLineFor f rs cs k .width))
+  refusal-16-of-draw-pack = pack-drawing.row-16 size t layout direction control text room
+
+  -- 9: the scratch, or else, behind all others, the output, Height rows of the width and an LF each.
+  refusal-9-of-draw-pack : (p : ℕ) →
+      PackDraws (draw-is.Refused (refusal areaTooSmall p)) ↔
+      ((p ≡ 0) ×
+      ((size < minScratch) ⊎
+      ((f : Head) × (rs : List (List ℕ)) × (cs : List Command) × (k : ℕ) × (PackFilesSay f rs cs k) ×
+      (length text ≤ maxText) × (packLineFor f rs cs k .width ≤ maxLineWidth) × (room < f .height * (packLineFor f rs cs k .width + 1)))))
+  refusal-9-of-draw-pack = pack-drawing.row-9 size t layout direction control text room
+
+  -- Otherwise the width, and 02, Q-2, the counts of the text.
+  draw-pack-otherwise : (w : ℕ) (n : Counts) →
+      PackDraws (draw-is.Drawn w n) ↔
+      ((f : Head) × (rs : List (List ℕ)) × (cs : List Command) × (k : ℕ) × (PackFilesSay f rs cs k) × (length text ≤ maxText) × (packLineFor f rs cs k .width ≤ maxLineWidth) ×
+      (f .height * (packLineFor f rs cs k .width + 1) ≤ room) × (w ≡ packLineFor f rs cs k .width) × (n ≡ countsOf (packSource f rs) (textCodes cs k text)))
+  draw-pack-otherwise = pack-drawing.row-drawn size t layout direction control text room
+
+  -- "A refusal fills every lent writable area with zeros"; the scratch is zeros after every answer by the call's contract.
+  draw-pack-wiped : (r : Refusal) → PackDraws (draw-is.Refused r) → padded (bytesOf packDrawn room) room ≡ zeros room
+  draw-pack-wiped = wiping.lined-wiped packDrawn room

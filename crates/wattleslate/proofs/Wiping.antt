@@ -22,11 +22,12 @@ use Rattle.font.specs.Font.{FontReading, refuses}
 use Rattle.entries.specs.Filling.{fontReading, zeroEntry, indexOf}
 use Rattle.flc.specs.Control as flc
 use Rattle.flc.specs.Lists.{CommandLists, commandLists, listsOf, controlReading}
-use Rattle.source.specs.declared.Counts.{Counts}
+use Rattle.drawing.specs.declared.DrawAnswer.{DrawAnswer}
+use Rattle.drawing.specs.declared.DrawAnswer.the-variants as drawn
 use Rattle.drawing.specs.Drawing.{Lined, lined, unlined, drawLined, withCounts, linedAnswer, bytesOf}
 use Rattle.twolines.specs.TwoLines.{TwoLines, linesTold, linesBytes, linesOutput}
 use Rattle.wrapping.specs.declared.WrapAnswer.the-variants as wrap
-use Rattle.wrapping.specs.Breaking.{Span}
+use Rattle.breaks.specs.Breaking.{Span}
 use Rattle.wrapping.specs.Wrapping.{Wrap, wrapped, unwrapped, wrapIn, wrapAnswer, wrapSpans, wrapBytes, wrapFirsts, wrapEnds, wrapOutput}
 use Rattle.wattleslate.specs.DrawCall.{drawTells, drawTold, drawOutput}
 
@@ -56,17 +57,22 @@ unfolding stackArea
 stack-wiped layout hardblank n upperWidth upper m lowerWidth lower room e =
     ap (λ (b : Bool). padded (cond b [] (stackRows (stackOf layout hardblank n upperWidth upper m lowerWidth lower))) room) e ∙ ap zeros (less-none room)
 
-pub draw-wiped : (size : ℕ) (s control text : List ℕ) (room : ℕ) → drawTold size s control text room .refused ≡ true → drawOutput size s control text room ≡ zeros room
-unfolding drawTold drawOutput linedAnswer bytesOf outputBytes
-draw-wiped size s control text room e = ap (λ (b : List ℕ). padded b room) (none (drawLined size s control text) e) ∙ ap zeros (less-none room)
+-- a drawing from any source
+lined-none : (l : Lined) (room : ℕ) → drawTells (linedAnswer l room) .refused ≡ true → bytesOf l room ≡ []
+unfolding linedAnswer bytesOf outputBytes
+lined-none (lined y h l n) room q = put-none (outputOf h l room) q
   where
-    put-none : (n : Counts) (a : PutAnswer) (bytes : List ℕ) → drawTells (withCounts n a) .refused ≡ true → putOnly a bytes ≡ []
-    put-none n (Put w) bytes q = absurd (false≢true q)
-    put-none n (Refused r) bytes q = refl
+    put-none : (a : PutAnswer) → drawTells (withCounts n a) .refused ≡ true → putOnly a (shown (y .hardblank .0) h l) ≡ []
+    put-none (Put w) q = absurd (false≢true q)
+    put-none (Refused r) q = refl
+lined-none (unlined r) room q = refl
 
-    none : (l : Lined) → drawTells (linedAnswer l room) .refused ≡ true → bytesOf l room ≡ []
-    none (lined y h l n) q = put-none n (outputOf h l room) (shown (y .hardblank .0) h l) q
-    none (unlined r) q = refl
+pub lined-wiped : (l : Lined) (room : ℕ) (r : Refusal) → linedAnswer l room ≡ drawn.Refused r → padded (bytesOf l room) room ≡ zeros room
+lined-wiped l room r e = ap (λ (b : List ℕ). padded b room) (lined-none l room (ap (λ (a : DrawAnswer). drawTells a .refused) e)) ∙ ap zeros (less-none room)
+
+pub draw-wiped : (size : ℕ) (s control text : List ℕ) (room : ℕ) → drawTold size s control text room .refused ≡ true → drawOutput size s control text room ≡ zeros room
+unfolding drawTold drawOutput
+draw-wiped size s control text room e = ap (λ (b : List ℕ). padded b room) (lined-none (drawLined size s control text) room e) ∙ ap zeros (less-none room)
 
 pub lines-wiped : (t : TwoLines) (room : ℕ) → linesTold t room .refused ≡ true → linesOutput t room ≡ zeros room
 unfolding linesOutput

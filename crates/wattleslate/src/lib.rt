@@ -13,6 +13,9 @@ pub use ground::refusals::Refusal;
 pub use header::Given;
 pub use header::Header;
 pub use join::JoinAnswer;
+pub use pack::EditAnswer;
+pub use pack::FindAnswer;
+pub use pack::PackAnswer;
 pub use reader::FontAnswer;
 pub use reader::LookedUp;
 use request::Requested;
@@ -37,6 +40,11 @@ ghost use Rattle.join.specs.JoinCall.{JoinGives};
 ghost use Rattle.stack.specs.StackCall.{StackGives};
 ghost use Rattle.twolines.specs.TwoLines.{drawLines, LinesOut};
 ghost use Rattle.wrapping.specs.Wrapping.{drawWrapped, WrapOut};
+ghost use Rattle.records.specs.Codes.{bitsOf};
+ghost use Rattle.heads.specs.Pack.{meaning};
+ghost use Rattle.pack.specs.Calls.{checkTold, locatedIn, findTold, rowsTold, LiesIn, removal, insertion, compaction, Changes};
+ghost use Rattle.drawing.specs.Drawing.{PutOut};
+ghost use Rattle.packdrawing.specs.PackDrawing.{packLined};
 ghost use Rattle.chars.specs.declared.Entry.{Entry};
 ghost use Rattle.reader.specs.declared.Use.the-variants.{Used};
 ghost use Rattle.reader.specs.Reader.{used, lookedUp};
@@ -254,4 +262,65 @@ pub fn draw_wrapped(
     ensures scratch { λ r. ⌜ now (scratch .exit) ≡ zeros (length (now (scratch .entry))) ⌝ }
 {
     wrapping::draw_wrapped(font, control, text, limit, scratch, firsts, ends, out)
+}
+
+// Tests a whole pack, and gives its height and how many records are live. Refusal 20.
+pub fn pack_check(pack: &[u8]) -> PackAnswer
+    ensures answer { λ r. ⌜ r ≡ checkTold (meaning (now (pack .entry))) ⌝ }
+{
+    pack::check(pack)
+}
+
+// Where the rows of a code's letter start in a pack, and its width. Refusals: 20, 17 for code -1, 22.
+pub fn pack_find(pack: &[u8], code: Code) -> FindAnswer
+    ensures answer { λ r. ⌜ r ≡ findTold (meaning (now (pack .entry))) (bitsOf (code .0)) ⌝ }
+{
+    pack::find(pack, code)
+}
+
+// The rows of the same letter, one after another, as a part of the pack. Where `pack_find` refuses they are empty.
+pub fn pack_rows<'a>(pack: &'a [u8], code: Code) -> &'a [u8]
+    ensures part { λ r. ⌜ now r ≡ rowsTold (now (pack .entry)) (bitsOf (code .0)) ⌝ }
+    ensures place { λ r. ⌜ LiesIn (pack .entry) (locatedIn (meaning (now (pack .entry))) (bitsOf (code .0))) r ⌝ }
+{
+    pack::find_rows(pack, code)
+}
+
+// Puts a letter into a pack: into the first free record of its width, else behind the last record. Refusals: 20, 17 for code -1, a width over 199, rows that
+// are not height times width bytes or hold a byte that a font's row may not, 21, 23; they leave the pack as it was lent.
+pub fn pack_put(pack: &mut [u8], code: Code, width: usize, rows: &[u8]) -> EditAnswer
+    ensures change { λ r. ⌜ Changes (insertion (meaning (now (pack .entry))) (length (now (pack .entry))) (bitsOf (code .0)) width (now (rows .entry))) (now (pack .entry)) r (now (pack .exit)) ⌝ }
+{
+    pack::put(pack, code, width, rows)
+}
+
+// Frees the record of a code's letter: one byte changes. Refusals: 20, 17 for code -1, 22; they leave the pack as it was lent.
+pub fn pack_remove(pack: &mut [u8], code: Code) -> EditAnswer
+    ensures change { λ r. ⌜ Changes (removal (meaning (now (pack .entry))) (bitsOf (code .0))) (now (pack .entry)) r (now (pack .exit)) ⌝ }
+{
+    pack::remove(pack, code)
+}
+
+// Drops the free records of a pack; the live ones follow one another in order, with zeros behind. Refusal 20, which leaves the pack as it was lent.
+pub fn pack_compact(pack: &mut [u8]) -> EditAnswer
+    ensures change { λ r. ⌜ Changes (compaction (meaning (now (pack .entry)))) (now (pack .entry)) r (now (pack .exit)) ⌝ }
+{
+    pack::compact(pack)
+}
+
+// Draws a line of text by a pack, a layout, a direction and a control file, as `draw` does by a font. Refusals: 9 for the scratch, 20, 17 for a layout of bad
+// shape, the control file's (10 to 14), 15, 16, then 9 for `out`; they leave `out` all zeros.
+pub fn draw_pack(
+    pack: &[u8],
+    layout: Layout,
+    direction: Direction,
+    control: &[u8],
+    text: &[u8],
+    scratch: &mut [u8],
+    out: &mut [u8],
+) -> DrawAnswer
+    ensures line { λ r. ⌜ PutOut (packLined (length (now (scratch .entry))) (now (pack .entry)) layout direction (now (control .entry)) (now (text .entry))) (length (now (out .entry))) r (now (out .exit)) ⌝ }
+    ensures scratch { λ r. ⌜ now (scratch .exit) ≡ zeros (length (now (scratch .entry))) ⌝ }
+{
+    packdrawing::draw_pack(pack, layout, direction, control, text, scratch, out)
 }

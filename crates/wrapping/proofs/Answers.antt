@@ -26,10 +26,10 @@ use Rattle.flc.proofs.RefusalLaws.{control-refusal}
 use Rattle.drawing.specs.Drawing.{byteChoice, modeOf, fontCounts}
 use Rattle.wrapping.specs.declared.WrapAnswer.{WrapAnswer}
 use Rattle.wrapping.specs.declared.WrapAnswer.the-variants.{Wrapped, Refused}
-use Rattle.wrapping.specs.Words.{inWord}
-use Rattle.wrapping.specs.Breaking.{Span, spansOf}
+use Rattle.breaks.specs.Words.{inWord}
+use Rattle.breaks.specs.Breaking.{Span, spansOf}
 use Rattle.wrapping.specs.Wrapping.{lineBy, wideIn, drawings, choiceWidth, tooWide, firstWider, Wrap, wrapped, unwrapped, wrapText, badLimit, wrapTested, wrapBy, wrapOf, drawWrapped, wrapIn, wrapAnswer}
-use Rattle.wrapping.proofs.Largest.{run-at, run-end}
+use Rattle.breaks.proofs.Largest.{run-at, run-end}
 use Rattle.wrapping.proofs.OrderLaws.{text-wider, text-fits, tested-long, tested-limit, tested-text, limit-large, read-wrapped, firsts-small, ends-small, scratch-small, areas-enough}
 
 -- 19: "the first text character other than byte 32 whose FIGcharacter, after mapping and stand-in, is itself wider than the limit".

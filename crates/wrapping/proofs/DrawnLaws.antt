@@ -23,8 +23,8 @@ use Rattle.drawing.specs.Drawing.{byteChoice}
 use Rattle.drawing.specs.Steps.{withCharacter, Reached}
 use Rattle.drawing.proofs.DrawingLaws.{one-join-more, empty-line}
 use Rattle.wrapping.specs.Wrapping.{part, lineBy, wideIn, choiceWidth, tooWide, firstWider}
-use Rattle.wrapping.specs.Steps.{NoneWider, Grows}
-use Rattle.wrapping.proofs.Largest.{run-at}
+use Rattle.breaks.specs.Steps.{NoneWider, Grows}
+use Rattle.breaks.proofs.Largest.{run-at}
 
 -- Parts of a text.
 module _ (s : List ℕ) (b : ℕ) where

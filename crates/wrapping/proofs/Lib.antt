@@ -1,11 +1,9 @@
--- The laws of words, of lines, and of their drawings.
-pub mod Largest
-pub mod WordLaws
-pub mod BreakingLaws
+-- The laws of lines and of their drawings.
 pub mod MeasureLaws
 pub mod DrawnLaws
 pub mod SearchLaws
 pub mod SpanLaws
+pub mod KeepingLaws
 pub mod PuttingLaws
 pub mod OrderLaws
 pub mod TextLines

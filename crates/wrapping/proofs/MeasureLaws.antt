@@ -16,7 +16,7 @@ use Rattle.source.specs.Source.{Choice, found, stoodIn, nothing, Source}
 use Rattle.source.specs.Steps.{ChosenAs}
 use Rattle.flc.specs.declared.Command.{Command}
 use Rattle.drawing.specs.Drawing.{byteChoice}
-use Rattle.wrapping.specs.Words.{inWord}
+use Rattle.breaks.specs.Words.{inWord}
 use Rattle.wrapping.specs.Wrapping.{choiceWidth, tooWide, firstWider}
 
 -- What was chosen has the width of what the source has.

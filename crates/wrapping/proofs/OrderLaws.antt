@@ -28,7 +28,7 @@ use Rattle.wrapping.specs.declared.WrapAnswer.{WrapAnswer}
 use Rattle.wrapping.specs.declared.WrapAnswer.the-variants.{Wrapped, Refused}
 use Rattle.wrapping.specs.declared.LinesPut.{LinesPut}
 use Rattle.wrapping.specs.declared.LinesPut.the-variants as put
-use Rattle.wrapping.specs.Breaking.{Span}
+use Rattle.breaks.specs.Breaking.{Span}
 use Rattle.wrapping.specs.Wrapping.{lineBy, firstWider, Wrap, wrapped, unwrapped, wrapLines, wrapText, badLimit, wrapTested, wrapBy, wrapOf, drawWrapped, wrapIn, wrapAnswer, wrapSpans, wrapBytes, WrapOut}
 use Rattle.wrapping.specs.Steps.{PutSo, PutAs}
 

@@ -9,12 +9,13 @@ use Rattle.ground.proofs.Areas.{map-more}
 use Rattle.join.specs.Join.{Block}
 use Rattle.figure.specs.Line.{shown}
 use Rattle.figure.proofs.Showing.{length-shown}
-use Rattle.wrapping.specs.Words.{wordFrom}
-use Rattle.wrapping.specs.Breaking.{Span, span, spanEnd, spansFrom, spansOf}
+use Rattle.breaks.specs.Words.{wordFrom}
+use Rattle.breaks.specs.Breaking.{Span, span, spanEnd, spansFrom, spansOf}
 use Rattle.wrapping.specs.Wrapping.{part, wideIn, drawings}
-use Rattle.wrapping.specs.Steps.{NoneWider, lastBehind, Opens, PutSo}
-use Rattle.wrapping.proofs.WordLaws.{start-in-word, behind-le, word-before, word-none}
-use Rattle.wrapping.proofs.BreakingLaws.{from-some, from-none}
+use Rattle.breaks.specs.Steps.{NoneWider, lastBehind, Opens}
+use Rattle.wrapping.specs.Steps.{PutSo}
+use Rattle.breaks.proofs.WordLaws.{start-in-word, behind-le, word-before, word-none}
+use Rattle.breaks.proofs.BreakingLaws.{from-some, from-none}
 
 module _ (hardblank h : ℕ) (line : List ℕ → Block) (s : List ℕ) where
   abbrev drawn : List Span → List ℕ
@@ -83,8 +84,9 @@ module _ (hardblank h : ℕ) (line : List ℕ → Block) (s : List ℕ) where
           size-next : length (drawn (so .done ++ (span b e ∷ []))) ≡ m + h * (w + 1)
           size-next = ap length drawn-next ∙ length-append (drawn (so .done)) new ∙ omega (arith, so .held .size, new-long)
 
-          pub put-next : n < length firsts → n < length ends → (out′ : List ℕ) → take (m + h * (w + 1)) out′ ≡ take m out ++ new → PutTo e (n + 1) (m + h * (w + 1)) (set firsts n b) (set ends n e) out′
-          put-next k l out′ q =
+          -- on an output whose first m bytes stayed
+          pub put-next : n < length firsts → n < length ends → (kept : List ℕ) → take m kept ≡ take m out → (out′ : List ℕ) → take (m + h * (w + 1)) out′ ≡ take m kept ++ new → PutTo e (n + 1) (m + h * (w + 1)) (set firsts n b) (set ends n e) out′
+          put-next k l kept stays out′ q =
               record {
                 done = so .done ++ (span b e ∷ []);
                 split = split-next;
@@ -93,7 +95,7 @@ module _ (hardblank h : ℕ) (line : List ℕ → Block) (s : List ℕ) where
                   size = sym size-next;
                   firsts-are = map-more (λ (x : Span). x .first) firsts n (so .done) (span b e) k (so .held .firsts-are);
                   ends-are = map-more (λ (x : Span). x .behind) ends n (so .done) (span b e) l (so .held .ends-are);
-                  bytes-are = q ∙ ap (λ (x : List ℕ). x ++ new) (so .held .bytes-are) ∙ sym drawn-next;
+                  bytes-are = q ∙ ap (λ (x : List ℕ). x ++ new) (stays ∙ so .held .bytes-are) ∙ sym drawn-next;
                 };
               }
 

@@ -13,14 +13,16 @@ use Rattle.subchars.specs.declared.Mode.{Mode}
 use Rattle.join.specs.Join.{Block}
 use Rattle.join.specs.Writing.{Like}
 use Rattle.figure.specs.Scratch.{scratchLine}
+use Rattle.wrapping.specs.declared.Kept.{Kept}
 use Rattle.wrapping.specs.declared.Sought.{Sought}
-use Rattle.wrapping.specs.Words.{inWord, wordBehind, endsWord}
-use Rattle.wrapping.specs.Breaking.{largest, spanEnd}
+use Rattle.breaks.specs.Words.{inWord, wordBehind, endsWord}
+use Rattle.breaks.specs.Breaking.{largest, spanEnd}
 use Rattle.wrapping.specs.Wrapping.{part, wideIn}
-use Rattle.wrapping.specs.Steps.{Grows, Opens, lastBehind, SoughtFrom}
-use Rattle.wrapping.proofs.Largest.{largest-le, largest-holds, largest-max, largest-next}
-use Rattle.wrapping.proofs.WordLaws.{run-one, word-ends, behind-ends, behind-all}
-use Rattle.wrapping.proofs.BreakingLaws.{WordsFit, Line, line-is}
+use Rattle.breaks.specs.Steps.{Grows, Opens, lastBehind}
+use Rattle.wrapping.specs.Steps.{KeptAs, SoughtFrom}
+use Rattle.breaks.proofs.Largest.{largest-le, largest-holds, largest-max, largest-next}
+use Rattle.breaks.proofs.WordLaws.{run-one, word-ends, behind-ends, behind-all}
+use Rattle.breaks.proofs.BreakingLaws.{WordsFit, Line, line-is}
 
 -- The search has come from b to e, and `last` is where a word ended last (b where none has).
 module _ (s : List ℕ) (b : ℕ) where
@@ -131,7 +133,7 @@ module _ (wide : ℕ → ℕ → ℕ) (limit : ℕ) (s : List ℕ) (grows : Grow
         found-word (λ f u w t n. omega (arith, at, u, behind-all s f (omega arith) w t)) (omega (arith, counted (lastBehind s) later at z))
 
 -- What the search tells: how far the text was drawn, and where the line ends.
-module _ (s : List ℕ) (b e last n : ℕ) (d : Sought) (told : d ≡ record { end = cond (eqb last b) e last; at = e; width = n }) where
+module _ (s : List ℕ) (b e last n : ℕ) (kept : Kept) (d : Sought) (told : d ≡ record { end = cond (eqb last b) e last; at = e; width = n; kept = kept }) where
   pub sought-between : Scanned s b e last → (limit : ℕ) → n ≤ limit → (b ≤ d .end) × (d .end ≤ d .at) × (d .at ≤ length s) × (d .width ≤ limit)
   sought-between c limit l =
       let w = scan-between s b e last c in
@@ -145,9 +147,10 @@ module _ (s : List ℕ) (b e last n : ℕ) (d : Sought) (told : d ≡ record { e
       ends true u v w = (u, omega arith)
       ends false u v w = (v, w)
 
-  pub sought-so : (y : Mode) (h : ℕ) (line : List ℕ → Block) (limit : ℕ) (area : List ℕ) → cond (eqb last b) e last ≡ spanEnd (wideIn line s) limit s b → Like h (scratchLine (y .direction) n area) (line (part s b e)) → SoughtFrom y h line limit s b d area
-  sought-so y h line limit area q held =
+  pub sought-so : (y : Mode) (h : ℕ) (line : List ℕ → Block) (limit at : ℕ) (area out : List ℕ) → cond (eqb last b) e last ≡ spanEnd (wideIn line s) limit s b → Like h (scratchLine (y .direction) n area) (line (part s b e)) → KeptAs y h (λ j. line (part s b j)) b at kept out → SoughtFrom y h line limit s b at d area out
+  sought-so y h line limit at area out q held stands =
       record {
         end = ap (λ (z : Sought). z .end) told ∙ q;
         held = subst (λ (z : Sought). Like h (scratchLine (y .direction) (z .width) area) (line (part s b (z .at)))) (sym told) held;
+        kept = subst (λ (z : Sought). KeptAs y h (λ j. line (part s b j)) b at (z .kept) out) (sym told) stands;
       }

@@ -19,11 +19,12 @@ use Rattle.figure.specs.Line.{withLF, shown}
 use Rattle.figure.specs.Scratch.{lineStart, scratchLine}
 use Rattle.figure.proofs.Showing.{shown-like}
 use Rattle.drawing.specs.Steps.{Reached}
-use Rattle.wrapping.specs.Breaking.{spanEnd}
+use Rattle.breaks.specs.Breaking.{spanEnd}
 use Rattle.wrapping.specs.Wrapping.{part, wideIn}
 use Rattle.wrapping.specs.declared.DrawnSpan.{DrawnSpan}
-use Rattle.wrapping.specs.Steps.{Opens, SpanDrawn}
-use Rattle.wrapping.proofs.BreakingLaws.{line-is}
+use Rattle.breaks.specs.Steps.{Opens}
+use Rattle.wrapping.specs.Steps.{SpanDrawn}
+use Rattle.breaks.proofs.BreakingLaws.{line-is}
 
 -- A line that is drawn again fits.
 module _ (y : Mode) (h : ℕ) (line : List ℕ → Block) (limit : ℕ) (s : List ℕ) (b : ℕ) (o : Opens (wideIn line s) limit s b) where
@@ -31,10 +32,10 @@ module _ (y : Mode) (h : ℕ) (line : List ℕ → Block) (limit : ℕ) (s : Lis
   span-narrow e q = subst (λ (j : ℕ). wideIn line s b j ≤ limit) (sym q) (line-is (wideIn line s) limit s b (o .within) (o .first) (o .one) .narrow)
 
   -- a line that is drawn takes at least a byte, ends in the text and is within the limit
-  pub span-facts : (d : DrawnSpan) (area : List ℕ) → SpanDrawn y h line limit s b d area → (b < d .end) × (d .end ≤ length s) × (d .width ≤ limit)
-  span-facts d area x =
+  pub span-facts : (at : ℕ) (d : DrawnSpan) (area out : List ℕ) → SpanDrawn y h line limit s b at d area out → (b < d .end) × (d .end ≤ length s) × (d .width ≤ limit)
+  span-facts at d area out x =
       let l = line-is (wideIn line s) limit s b (o .within) (o .first) (o .one) in
-      (omega (arith, l .longer, x .end), omega (arith, l .within, x .end), omega (arith, span-narrow (d .end) (x .end), x .held .width))
+      (omega (arith, l .longer, x .end), omega (arith, l .within, x .end), omega (arith, span-narrow (d .end) (x .end), x .ready .width))
 
   pub drawn-again : (e w : ℕ) (area : List ℕ) → e ≡ spanEnd (wideIn line s) limit s b → Reached y h limit w area (line (part s b e)) → Like h (scratchLine (y .direction) w area) (line (part s b e))
   drawn-again e w area q x =

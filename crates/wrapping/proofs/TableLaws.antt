@@ -23,8 +23,8 @@ use Rattle.flc.proofs.RefusalLaws.{control-refusal}
 use Rattle.drawing.specs.Drawing.{byteChoice, fontCounts, fontLine, modeOf}
 use Rattle.wrapping.specs.declared.WrapAnswer.{WrapAnswer}
 use Rattle.wrapping.specs.declared.WrapAnswer.the-variants.{Wrapped, Refused}
-use Rattle.wrapping.specs.Words.{inWord}
-use Rattle.wrapping.specs.Breaking.{Span, spansOf}
+use Rattle.breaks.specs.Words.{inWord}
+use Rattle.breaks.specs.Breaking.{Span, spansOf}
 use Rattle.wrapping.specs.Wrapping.{wideIn, drawings, choiceWidth, firstWider}
 use Rattle.wrapping.proofs.Answers as answers
 use Rattle.wrapping.proofs.Answers.{Enough, FilesRead, LimitGood, WrapsTo, areas-small, font-refused, control-refused, text-too-long, limit-bad, character-wide, output-small, wraps, wider-at, none-before}

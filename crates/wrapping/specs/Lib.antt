@@ -1,5 +1,3 @@
--- The meaning of a text broken into lines and drawn.
-pub mod Words
-pub mod Breaking
+-- The meaning of a text drawn in lines.
 pub mod Wrapping
 pub mod Steps

@@ -1,16 +1,18 @@
 -- How the lines of a text are found and put out, one after another: what the functions inside know of each other.
 -- Assumes nothing.
 use mathlib.Core.Path.{_≡_}
-use Prim.Native.Nat.{ℕ, _+_, _-_, _<_, _≤_}
-use mathlib.Core.Bool.{true}
-use mathlib.Core.List.{List, map}
+use Prim.Native.Nat.{ℕ, _+_, _*_, _<_, _≤_}
+use mathlib.Core.Bool.{true, false}
+use mathlib.Core.List.{List, _++_, map}
 use lib.IntN.{ℤ}
-use lib.ListN.{length, take, getD}
+use lib.ListN.{length, take}
 use Rattle.subchars.specs.declared.Mode.{Mode}
 use Rattle.join.specs.Join.{Block}
 use Rattle.join.specs.Writing.{Like}
+use Rattle.figure.specs.Line.{shown}
 use Rattle.figure.specs.Scratch.{scratchLine}
 use Rattle.source.specs.Source.{Source}
+use Rattle.source.specs.declared.Origin.the-variants.{Font}
 use Rattle.source.specs.Held.{Gives}
 use Rattle.source.specs.Counting.{isMissing, howMany}
 use Rattle.flc.specs.declared.Command.{Command}
@@ -18,36 +20,18 @@ use Rattle.flc.specs.Passing.{ControlHeld}
 use Rattle.drawing.specs.Drawing.{textCodes}
 use Rattle.wrapping.specs.declared.Drawer.{Drawer}
 use Rattle.wrapping.specs.declared.Measured.{Measured}
+use Rattle.wrapping.specs.declared.Kept.{Kept}
 use Rattle.wrapping.specs.declared.Sought.{Sought}
 use Rattle.wrapping.specs.declared.DrawnSpan.{DrawnSpan}
 use Rattle.wrapping.specs.declared.LinesPut.{LinesPut}
 use Rattle.wrapping.specs.declared.LinesPut.the-variants.{Put, NoRoom}
-use Rattle.wrapping.specs.Words.{inWord}
-use Rattle.wrapping.specs.Breaking.{Span, largest, spanEnd}
+use Rattle.breaks.specs.Breaking.{Span, spanEnd}
 use Rattle.wrapping.specs.Wrapping.{part, wideIn, firstWider}
-
--- No byte of a word alone is wider than the limit: 19 is not given.
-abbrev pub NoneWider : (ℕ → ℕ → ℕ) → ℕ → List ℕ → Type 0
-NoneWider wide limit s = (p : ℕ) → p < length s → inWord (getD s p 0) ≡ true → wide p (p + 1) ≤ limit
-
--- A longer part of the text is never narrower.
-abbrev pub Grows : (ℕ → ℕ → ℕ) → List ℕ → Type 0
-Grows wide s = (b e e′ : ℕ) → b ≤ e → e ≤ e′ → e′ ≤ length s → wide b e ≤ wide b e′
-
--- A line starts at b: a byte of a word, which alone fits.
-pub record Opens (wide : ℕ → ℕ → ℕ) (limit : ℕ) (s : List ℕ) (b : ℕ) : Type 0 where
-  pub within : b < length s
-  pub first : inWord (getD s b 0) ≡ true
-  pub one : wide b (b + 1) ≤ limit
-
--- The place behind the last word; 0 in a text without words.
-unfoldable pub lastBehind : List ℕ → ℕ
-lastBehind s = largest (λ k. inWord (getD s (k - 1) 0)) (length s)
 
 -- The bytes and the lists by which texts are drawn: they give the characters of a source and hold the commands of a control file.
 pub record DrawsBy (d : Drawer) (font : List ℕ) (codes : List ℤ) (starts widths places stages : List ℕ) (firsts lasts news : List ℤ) : Type 0 where
   pub source : Source
-  pub given : Gives source font (d .height) (d .count) codes starts widths places
+  pub given : Gives source font (d .height) (Font (d .count)) codes starts widths places
   pub control : List ℕ
   pub held : ControlHeld control (d .commands) stages firsts lasts news
 
@@ -56,15 +40,31 @@ pub record MeasuredAs (source : Source) (cs : List Command) (k limit : ℕ) (tex
   pub place : m .place ≡ firstWider source cs k limit text
   pub missing : length text ≤ m .place → m .missing ≡ howMany isMissing source (textCodes cs k text)
 
--- A line was sought from b on: where it ends; and the scratch area holds the text from b as far as it was drawn.
-pub record SoughtFrom (y : Mode) (h : ℕ) (line : List ℕ → Block) (limit : ℕ) (s : List ℕ) (b : ℕ) (d : Sought) (area : List ℕ) : Type 0 where
+-- A line w wide stands in the output from a place on.
+pub record Stands (y : Mode) (h : ℕ) (drawn : Block) (w at : ℕ) (out : List ℕ) : Type 0 where
+  pub width : w ≡ drawn .width
+  pub bytes : take (at + h * (w + 1)) out ≡ take at out ++ shown (y .hardblank .0) h drawn
+
+-- What was kept of the line that starts at b stands in the output; `line e` is the drawing from b to before e.
+abbrev pub KeptAs : Mode → ℕ → (ℕ → Block) → ℕ → ℕ → Kept → List ℕ → Type 0
+KeptAs y h line b at k out = b < k .end → Stands y h (line (k .end)) (k .width) at out
+
+-- A line was sought from b on: where it ends; the scratch area holds the text from b as far as it was drawn, and what was kept of the line stands in the output.
+pub record SoughtFrom (y : Mode) (h : ℕ) (line : List ℕ → Block) (limit : ℕ) (s : List ℕ) (b at : ℕ) (d : Sought) (area out : List ℕ) : Type 0 where
   pub end : d .end ≡ spanEnd (wideIn line s) limit s b
   pub held : Like h (scratchLine (y .direction) (d .width) area) (line (part s b (d .at)))
+  pub kept : KeptAs y h (λ e. line (part s b e)) b at (d .kept) out
 
--- The line that starts at b was drawn: where it ends, and the scratch area holds it.
-pub record SpanDrawn (y : Mode) (h : ℕ) (line : List ℕ → Block) (limit : ℕ) (s : List ℕ) (b : ℕ) (d : DrawnSpan) (area : List ℕ) : Type 0 where
+-- A line that was drawn: the scratch area holds it, or it stands in the output.
+pub record Ready (y : Mode) (h : ℕ) (drawn : Block) (d : DrawnSpan) (at : ℕ) (area out : List ℕ) : Type 0 where
+  pub width : d .width ≡ drawn .width
+  pub held : d .put ≡ false → Like h (scratchLine (y .direction) (d .width) area) drawn
+  pub stands : d .put ≡ true → Stands y h drawn (d .width) at out
+
+-- The line that starts at b was drawn: where it ends, and where it is.
+pub record SpanDrawn (y : Mode) (h : ℕ) (line : List ℕ → Block) (limit : ℕ) (s : List ℕ) (b at : ℕ) (d : DrawnSpan) (area out : List ℕ) : Type 0 where
   pub end : d .end ≡ spanEnd (wideIn line s) limit s b
-  pub held : Like h (scratchLine (y .direction) (d .width) area) (line (part s b (d .end)))
+  pub ready : Ready y h (line (part s b (d .end))) d at area out
 
 -- Lines that were put: n of them, whose drawings have m bytes, are at the start of the lists and of the output.
 pub record PutSo (spans : List Span) (bytes : List ℕ) (n m : ℕ) (firsts ends out : List ℕ) : Type 0 where

@@ -23,8 +23,8 @@ use Rattle.flc.specs.Control as flc
 use Rattle.drawing.specs.Drawing.{textCodes, byteChoice, lineOf, modeOf}
 use Rattle.wrapping.specs.declared.WrapAnswer.{WrapAnswer}
 use Rattle.wrapping.specs.declared.WrapAnswer.the-variants.{Wrapped, Refused}
-use Rattle.wrapping.specs.Words.{inWord}
-use Rattle.wrapping.specs.Breaking.{Span, spansOf}
+use Rattle.breaks.specs.Words.{inWord}
+use Rattle.breaks.specs.Breaking.{Span, spansOf}
 
 -- "A line is the part of the text from its first word's first byte to the end of its last."
 abbrev pub part : List ℕ → ℕ → ℕ → List ℕ

@@ -1,5 +1,5 @@
 //! The calls of the static library, in safe functions. They ask nothing of their input, so nothing is tested here.
-use crate::plain::{join, stack, wrap};
+use crate::plain::{join, pack, stack, wrap};
 
 extern "C" {
     fn wattleslate_check_font(font: *const u8, font_len: usize) -> u64;
@@ -70,6 +70,25 @@ extern "C" {
         upper_len: usize,
         lower: *const u8,
         lower_len: usize,
+        scratch: *mut u8,
+        scratch_len: usize,
+        out: *mut u8,
+        out_len: usize,
+    ) -> u64;
+    fn wattleslate_pack_check(pack: *const u8, pack_len: usize) -> u64;
+    fn wattleslate_pack_find(pack: *const u8, pack_len: usize, code: i32) -> u64;
+    fn wattleslate_pack_put(pack: *mut u8, pack_len: usize, code: i32, width: usize, rows: *const u8, rows_len: usize) -> u64;
+    fn wattleslate_pack_remove(pack: *mut u8, pack_len: usize, code: i32) -> u64;
+    fn wattleslate_pack_compact(pack: *mut u8, pack_len: usize) -> u64;
+    fn wattleslate_draw_pack(
+        pack: *const u8,
+        pack_len: usize,
+        layout: usize,
+        direction: usize,
+        control: *const u8,
+        control_len: usize,
+        text: *const u8,
+        text_len: usize,
         scratch: *mut u8,
         scratch_len: usize,
         out: *mut u8,
@@ -199,6 +218,51 @@ pub fn draw_stacked(font: &[u8], control: &[u8], upper: &[u8], lower: &[u8], scr
             upper.len(),
             lower.as_ptr(),
             lower.len(),
+            scratch.as_mut_ptr(),
+            scratch.len(),
+            out.as_mut_ptr(),
+            out.len(),
+        )
+    }
+}
+
+pub fn pack_check(pack: &[u8]) -> u64 {
+    // SAFETY: as above.
+    unsafe { wattleslate_pack_check(pack.as_ptr(), pack.len()) }
+}
+
+pub fn pack_find(pack: &[u8], code: i32) -> u64 {
+    // SAFETY: as above.
+    unsafe { wattleslate_pack_find(pack.as_ptr(), pack.len(), code) }
+}
+
+pub fn pack_put(pack: &mut [u8], code: i32, width: usize, rows: &[u8]) -> u64 {
+    // SAFETY: as above.
+    unsafe { wattleslate_pack_put(pack.as_mut_ptr(), pack.len(), code, width, rows.as_ptr(), rows.len()) }
+}
+
+pub fn pack_remove(pack: &mut [u8], code: i32) -> u64 {
+    // SAFETY: as above.
+    unsafe { wattleslate_pack_remove(pack.as_mut_ptr(), pack.len(), code) }
+}
+
+pub fn pack_compact(pack: &mut [u8]) -> u64 {
+    // SAFETY: as above.
+    unsafe { wattleslate_pack_compact(pack.as_mut_ptr(), pack.len()) }
+}
+
+pub fn draw_pack(r: &pack::Request, scratch: &mut [u8], out: &mut [u8]) -> u64 {
+    // SAFETY: as above.
+    unsafe {
+        wattleslate_draw_pack(
+            r.pack.as_ptr(),
+            r.pack.len(),
+            r.layout,
+            r.direction,
+            r.control.as_ptr(),
+            r.control.len(),
+            r.text.as_ptr(),
+            r.text.len(),
             scratch.as_mut_ptr(),
             scratch.len(),
             out.as_mut_ptr(),

@@ -259,5 +259,6 @@ pub fn run() -> (u64, u64) {
     check.replaced();
     check.rows();
     check.wrapped();
+    check.packs();
     (check.made, check.wrong)
 }

@@ -1,8 +1,14 @@
 //! Two implementations of the calls, the proved one by its static library and a plain one, and what is needed to compare them.
 pub mod calls;
 pub mod cases;
+pub mod compared;
 pub mod inputs;
 pub mod met;
+pub mod pack_cases;
+pub mod pack_compare;
+pub mod pack_draw_cases;
+pub mod pack_met;
+pub mod packs;
 pub mod plain;
 pub mod random;
 pub mod replaced;

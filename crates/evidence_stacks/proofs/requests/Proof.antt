@@ -1,6 +1,6 @@
 -- `evidence_stacks::requests` is safe and ends: each line brings the cursor nearer to the end.
 -- Assumes nothing.
-use mathlib.Core.Path.{sym, _∙_}
+use mathlib.Core.Path.{_≡_, refl, sym, _∙_}
 use Prim.Native.Nat.{_-_}
 use native.Mathlib.Omega.{arith}
 use lib.ListN.{length}
@@ -10,23 +10,23 @@ use Rattle.evidence_stacks.proofs.requests.Statement.{statement}
 use Rattle.evidence_stacks.proofs.requests.Tie as tie
 
 abbrev Inv-loop : tie.InvT-loop
-Inv-loop t c₀ c = Unit {0}
+Inv-loop t pack₀ c₀ pack c = length pack ≡ length pack₀
 
 abbrev μ-loop : tie.MeasureT-loop
-μ-loop t c₀ c = length t - c .at
+μ-loop t pack₀ c₀ pack c = length t - c .at
 
 abbrev Line : Type 0
 Line = tie.After-known-told Inv-loop μ-loop
 
 -- the line that was found
-found : (c : Line) → LineFound (c .before .before .before .before .before .before .before .args .t .now) (c .before .before .before .before .loop .cursor .at) (c .before .start .given .0 .0) (c .before .start .given .0 .1 .0) (c .before .start .given .0 .1 .1 .0)
+found : (c : Line) → LineFound (c .before .before .before .before .before .before .before .before .args .t .now) (c .before .before .before .before .loop .cursor .at) (c .before .start .given .0 .0) (c .before .start .given .0 .1 .0) (c .before .start .given .0 .1 .1 .0)
 found c = line-found _ _ _ _ _ (sym (c .before .start .given .1) ∙ c .before .before .before .next .ensures)
 
 new-requires : tie.Need-new-requires Inv-loop μ-loop
 new-requires c κs = tt
 
 loop-holds : tie.Need-loop-holds Inv-loop μ-loop
-loop-holds c = tt
+loop-holds c = refl
 
 next-requires : tie.Need-next-requires Inv-loop μ-loop
 next-requires c κs = tt
@@ -48,15 +48,18 @@ request-requires c κs = tt
 
 loop-less : tie.Need-loop-less Inv-loop μ-loop
 loop-less c =
-    let l = c .before .before in
+    let l = c .before .before .before .before .before in
     let f = found l in
-    omega (arith, f .inside, f .further, next-more (l .before .before .before .before .before .before .before .args .t .now) (l .before .before .before .before .loop .cursor .at) (f .inside))
+    omega (arith, f .inside, f .further, next-more (l .before .before .before .before .before .before .before .before .args .t .now) (l .before .before .before .before .loop .cursor .at) (f .inside))
 
 loop-again : tie.Need-loop-again Inv-loop μ-loop
-loop-again c = tt
+loop-again c = search needs
 
 enum-told : tie.Need-enum-told Inv-loop μ-loop
 enum-told c = search needs
+
+same-length : tie.Need-same-length Inv-loop μ-loop
+same-length c = search needs
 
 returns : tie.Need-returns Inv-loop μ-loop
 returns c = tt
@@ -78,4 +81,5 @@ requests-spec =
     loop-less
     loop-again
     enum-told
+    same-length
     returns)

@@ -1,51 +1,55 @@
 -- `source::choose` meets its contract.
 -- Assumes nothing.
-use mathlib.Core.Path.{sym, _∙_}
-use native.Mathlib.Omega.{arith}
+use mathlib.Core.Path.{sym, subst}
 use borrow.Author.Needs.{needs}
-use Rattle.source.proofs.CharacterLaws.{given-high, given-room, given-standing, given-marked, given-chosen, given-nothing}
+use Rattle.source.specs.declared.Origin.{Origin}
+use Rattle.source.specs.Held.{GivesBy}
 use Rattle.source.proofs.choose.Statement.{statement}
 use Rattle.source.proofs.choose.Tie as tie
 
-find-known-requires : tie.Need-find-known-requires
-find-known-requires c κs = given-room _ _ _ _ _ _ _ _ (c .before .before .before .before .before .pre .0 .1)
+enum-known-origin : tie.Need-enum-known-origin
+enum-known-origin c = search needs
 
-enum-known-entry : tie.Need-enum-known-entry
-enum-known-entry c = search needs
-
-same-code-requires : tie.Need-same-code-requires
-same-code-requires c κs = search needs
-
-find-rows-requires : tie.Need-find-rows-requires
-find-rows-requires c κs =
-    let g = c .before .before .before .before .before .before .before .before .before .before .before .pre .0 .1 in
-    let h = given-high _ _ _ _ _ _ _ _ g in
-    let code = c .before .before .before .before .before .before .before .before .before .before .before .args .code in (
-      (h .0, omega (arith, h .1, c .before .before .before .before .before .before .before .before .before .before .before .pre .1)),
-      (given-standing _ _ _ _ _ _ _ _ code _ (λ es n l. sym (c .before .before .before .entry .given .1) ∙ c .before .before .before .before .before .find-known .ensures es n l) g, given-marked _ _ _ _ _ _ _ _ code _ (λ es n l. sym (c .before .before .before .entry .given .1) ∙ c .before .before .before .before .before .find-known .ensures es n l) g),
-    )
+choose-entry-requires : tie.Need-choose-entry-requires
+choose-entry-requires c κs =
+    let a = c .before .before .before .before .before .before .before .before .before .args in
+    let p = c .before .before .before .before .before .before .before .before .before .pre in
+    ((p .0 .0, subst (λ (o : Origin). GivesBy (p .0 .0) (a .font .now) (a .height) o (a .codes .now) (a .starts .now) (a .widths .now) (a .places .now)) (c .before .before .origin .given .1) (p .0 .1 .by)), p .1)
 
 enum-told : tie.Need-enum-told
 enum-told c = search needs
+
+choose-letter-requires : tie.Need-choose-letter-requires
+choose-letter-requires c κs =
+    let a = c .before .before .before .before .before .before .before .before .args in
+    let p = c .before .before .before .before .before .before .before .before .pre in
+    ((p .0 .0, subst (λ (o : Origin). GivesBy (p .0 .0) (a .font .now) (a .height) o (a .codes .now) (a .starts .now) (a .widths .now) (a .places .now)) (c .before .enum-told .given .1) (p .0 .1 .by)), p .1)
 
 same-length : tie.Need-same-length
 same-length c = search needs
 
 returns : tie.Need-returns
-returns c = λ source g. rw (c .before .before .before .before .same-code .ensures) (given-chosen source _ _ _ _ _ _ _ (c .before .before .before .before .before .before .before .before .before .before .before .before .before .before .args .code) _ (λ es n l. sym (c .before .before .before .before .before .before .entry .given .1) ∙ c .before .before .before .before .before .before .before .before .find-known .ensures es n l) _ (c .before .before .find-rows .ensures) g)
+returns c = λ source g.
+    let a = c .before .before .before .before .before .before .before .before .before .before .before .before .args in
+    c .before .before .choose-entry .ensures source (subst (λ (o : Origin). GivesBy source (a .font .now) (a .height) o (a .codes .now) (a .starts .now) (a .widths .now) (a .places .now)) (c .before .before .before .before .before .origin .given .1) (g .by))
+
+same-length-2 : tie.Need-same-length-2
+same-length-2 c = search needs
 
 returns-2 : tie.Need-returns-2
-returns-2 c = λ source g. given-nothing source _ _ _ _ _ _ _ (c .before .before .before .before .before .before .before .before .args .code) (λ es n l. sym (c .enum-told .given .1) ∙ c .before .before .find-known .ensures es n l) _ g
+returns-2 c = λ source g.
+    let a = c .before .before .before .before .before .before .before .before .before .before .before .args in
+    c .before .before .choose-letter .ensures source (subst (λ (o : Origin). GivesBy source (a .font .now) (a .height) o (a .codes .now) (a .starts .now) (a .widths .now) (a .places .now)) (c .before .before .before .before .enum-told .given .1) (g .by))
 
 pub choose-spec : {M : Type 1} → statement M
 choose-spec =
     tie.close
     (tie.spec
-    find-known-requires
-    enum-known-entry
-    same-code-requires
-    find-rows-requires
+    enum-known-origin
+    choose-entry-requires
     enum-told
+    choose-letter-requires
     same-length
     returns
+    same-length-2
     returns-2)

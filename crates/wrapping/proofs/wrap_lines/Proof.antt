@@ -5,7 +5,7 @@ use mathlib.Core.List.{List}
 use Prim.Native.Nat.{ℕ}
 use lib.ListN.{length}
 use borrow.Author.Needs.{needs}
-use Rattle.wrapping.specs.Breaking.{Span, spansOf}
+use Rattle.breaks.specs.Breaking.{Span, spansOf}
 use Rattle.wrapping.specs.Wrapping.{lineBy, wideIn, drawings, wrapLines}
 use Rattle.wrapping.proofs.OrderLaws.{out-as, out-rooms, put-room}
 use Rattle.wrapping.proofs.wrap_lines.Statement.{statement}
@@ -15,19 +15,19 @@ put-lines-requires : tie.Need-put-lines-requires
 put-lines-requires c κs = search needs
 
 counts-of-requires : tie.Need-counts-of-requires
-counts-of-requires c κs = let x = c .before .before .before .before .before .before .before .before .before .before .before .before .before .before .before .before .before .before .before .before .before .before .before .pre .0 .0 in (x .source, x .given)
+counts-of-requires c κs = let x = c .before .before .before .before .before .before .before .before .before .before .before .before .before .before .before .before .before .before .before .before .before .before .before .before .pre .0 .0 in (x .source, x .given)
 
 finish-lines-requires : tie.Need-finish-lines-requires
 finish-lines-requires c κs =
-    let a = c .before .before .before .before .before .before .before .before .before .before .before .before .before .before .before .before .before .before .before .before .before .before .before .before .before .before .before .args in
-    let x = c .before .before .before .before .before .before .before .before .before .before .before .before .before .before .before .before .before .before .before .before .before .before .before .before .before .before .before .pre .0 .0 in
+    let a = c .before .before .before .before .before .before .before .before .before .before .before .before .before .before .before .before .before .before .before .before .before .before .before .before .before .before .before .before .args in
+    let x = c .before .before .before .before .before .before .before .before .before .before .before .before .before .before .before .before .before .before .before .before .before .before .before .before .before .before .before .before .pre .0 .0 in
     let put = c .before .before .before .before .before .before .before .before .before .before .before .before .put-lines in
     let y = a .drawer .mode in
     let h = a .drawer .height in
     let line = lineBy y h (x .source) (x .held .commands) (x .held .count) in
     let spans = spansOf (wideIn line (a .text .now)) (a .drawer .limit) (a .text .now) in
     let drawn = drawings (y .hardblank .0) h line (a .text .now) in
-    (spans, drawn, put-room spans drawn (length (a .out .now)) (put .last .0) (put .last .1 .0) (put .last .1 .1 .0) (put .result) (length (put .last .1 .1 .0)) (sym (put .kept .1 .1 .0)) (put .ensures x (c .before .before .before .before .before .before .before .before .before .before .before .before .before .before .before .before .before .before .before .before .before .before .before .before .before .before .before .pre .0 .1)))
+    (spans, drawn, put-room spans drawn (length (a .out .now)) (put .last .0) (put .last .1 .0) (put .last .1 .1 .0) (put .result) (length (put .last .1 .1 .0)) (sym (put .kept .1 .1 .0)) (put .ensures x (c .before .before .before .before .before .before .before .before .before .before .before .before .before .before .before .before .before .before .before .before .before .before .before .before .before .before .before .before .pre .0 .1)))
 
 same-length : tie.Need-same-length
 same-length c = search needs
@@ -43,7 +43,7 @@ same-length-4 c = search needs
 
 returns : tie.Need-returns
 returns c =
-    let a = c .before .before .before .before .before .before .before .before .before .before .before .before .before .before .before .before .before .before .before .before .before .before .before .before .before .before .before .before .before .before .before .before .before .before .args in
+    let a = c .before .before .before .before .before .before .before .before .before .before .before .before .before .before .before .before .before .before .before .before .before .before .before .before .before .before .before .before .before .before .before .before .before .before .before .args in
     let put = c .before .before .before .before .before .before .before .before .before .before .before .before .before .before .before .before .before .before .before .put-lines in
     let k = put .kept in
     λ x none few.

@@ -2,21 +2,14 @@
 //! compare [SEED [TIMES]]: exits 1 at the first difference, after printing the input, or at the end where a refusal or a case was never met.
 use std::process::exit;
 use std::time::Instant;
+use wattleslate_tests::compared::{differ, rooms, shown, Count};
 use wattleslate_tests::met::{self, Drawing, Met};
 use wattleslate_tests::plain::wrap::{self, Areas, Request};
 use wattleslate_tests::random::Random;
 use wattleslate_tests::wrapped::{self, Asked};
-use wattleslate_tests::{calls, cases, inputs, plain, replaced, rows, stacks, wraps};
+use wattleslate_tests::{calls, cases, inputs, pack_compare, pack_met, plain, replaced, rows, stacks, wraps};
 
-/// How often a call was made and how often each refusal came; 0 is success.
-struct Count {
-    name: &'static str,
-    /// The refusals that it can give.
-    refusals: &'static [u64],
-    answers: [u64; 20],
-}
-
-const CALLS: [(&str, &[u64]); 7] = [
+const CALLS: [(&str, &[u64]); 13] = [
     ("join", &[9, 16, 17]),
     ("check_font", &[1, 2, 3, 4, 5, 6, 7, 8]),
     ("check_control", &[10, 11, 12, 13, 14]),
@@ -24,51 +17,13 @@ const CALLS: [(&str, &[u64]); 7] = [
     ("stack", &[9, 17, 18]),
     ("draw_stacked", &[1, 2, 3, 4, 5, 6, 7, 8, 9, 10, 11, 12, 13, 14, 15, 16]),
     ("draw_wrapped", &[1, 2, 3, 4, 5, 6, 7, 8, 9, 10, 11, 12, 13, 14, 15, 17, 19]),
+    ("pack_check", &[20]),
+    ("pack_find", &[17, 20, 22]),
+    ("pack_put", &[17, 20, 21, 23]),
+    ("pack_remove", &[17, 20, 22]),
+    ("pack_compact", &[20]),
+    ("draw_pack", &[9, 10, 11, 12, 13, 14, 15, 16, 17, 20]),
 ];
-
-impl Count {
-    fn new((name, refusals): (&'static str, &'static [u64])) -> Count {
-        Count { name, refusals, answers: [0; 20] }
-    }
-
-    fn add(&mut self, answer: u64) {
-        self.answers[calls::number(answer) as usize] += 1;
-    }
-
-    /// Prints the counts; how many of the refusals that it can give never came.
-    fn print(&self) -> usize {
-        let total: u64 = self.answers.iter().sum();
-        print!("{}: {total}, of these {} not refused", self.name, self.answers[0]);
-        for (number, times) in self.answers.iter().enumerate().skip(1).filter(|(_, t)| **t > 0) {
-            print!(", {number}: {times}");
-        }
-        println!();
-        let never: Vec<&u64> = self.refusals.iter().filter(|n| self.answers[**n as usize] == 0).collect();
-        if !never.is_empty() {
-            println!("  NEVER MET: {never:?}");
-        }
-        never.len()
-    }
-}
-
-fn shown(bytes: &[u8]) -> String {
-    format!("b\"{}\"", bytes.escape_ascii())
-}
-
-/// Prints a difference and ends the program.
-fn differ(call: &str, input: &[(&str, String)], proved: (u64, &[&[u8]]), plain: (u64, &[&[u8]])) -> ! {
-    println!("{call} differs");
-    for (name, value) in input {
-        println!("  {name} = {value}");
-    }
-    for (who, (answer, areas)) in [("proved", proved), ("plain", plain)] {
-        println!("  {who}: answer {:?}", calls::apart(answer));
-        for area in areas {
-            println!("    area {}", shown(area));
-        }
-    }
-    exit(1)
-}
 
 fn compare_join(r: &mut Random, count: &mut Count) {
     let j = inputs::join(r);
@@ -108,23 +63,6 @@ fn compare_control(file: &[u8], count: &mut Count) {
         differ("check_control", &[("file", shown(file))], (x, &[]), (y, &[]));
     }
     count.add(x);
-}
-
-/// The sizes of the two areas: nearly always enough, and sometimes one byte short. `draw` draws into areas that are large enough, and `least` is what
-/// the scratch must have.
-fn rooms(r: &mut Random, least: usize, draw: impl Fn(&mut [u8], &mut [u8]) -> u64) -> (usize, usize) {
-    let scratch = if r.one_in(20) { r.between(least - 2, least + 1) } else { least };
-    let mut out = vec![0; 66000];
-    let answer = draw(&mut vec![0; least], &mut out);
-    let needed = out.iter().rposition(|b| *b != 0).map_or(0, |k| k + 1);
-    let out = match r.below(24) {
-        _ if calls::number(answer) != 0 => r.below(100),
-        0 => needed.saturating_sub(1),
-        1 => r.below(needed + 1),
-        2 => needed + r.below(100),
-        _ => needed,
-    };
-    (scratch, out)
 }
 
 /// Cuts a long text where its line becomes too wide, or one byte behind.
@@ -220,8 +158,8 @@ fn compare_draw_wrapped(r: &mut Random, font: &[u8], control: &[u8], count: &mut
     wrapped::draw_wrapped(&Asked { request: &request, comes_to: &comes_to }, x, &a, met);
 }
 
-/// What one round compares: ten joins and stacks, a font, three control files, a line, two lines and a wrapped text drawn with the font.
-fn round(r: &mut Random, mut font: Vec<u8>, damaged: bool, counts: &mut [Count; 7], cases: &mut [Met; 5]) {
+/// What one round compares: ten joins and stacks, a font, three control files, a line, two lines and a wrapped text drawn with the font, and packs.
+fn round(r: &mut Random, mut font: Vec<u8>, damaged: bool, counts: &mut [Count; 13], cases: &mut [Met; 8]) {
     for _ in 0..10 {
         compare_join(r, &mut counts[0]);
         compare_stack(r, &mut counts[4], &mut cases[0]);
@@ -247,6 +185,7 @@ fn round(r: &mut Random, mut font: Vec<u8>, damaged: bool, counts: &mut [Count; 
     }
     compare_draw_stacked(r, &font, control, [&texts[0], &texts[1]], &mut counts[5], &mut cases[1]);
     compare_draw_wrapped(r, &font, control, &mut counts[6], &mut cases[4]);
+    pack_compare::round(r, &font, control, &mut counts[7..], &mut cases[5..]);
 }
 
 fn main() {
@@ -268,6 +207,9 @@ fn main() {
         Met::new("bytes that are not in the font met", replaced::CASES),
         Met::new("row lines met", rows::CASES),
         Met::new("wrapped texts met", wrapped::CASES),
+        Met::new("packs met", pack_met::PACKS),
+        Met::new("letters of packs met", pack_met::LETTERS),
+        Met::new("drawings from packs met", pack_met::DRAWINGS),
     ];
     for k in 0..times {
         let font = if k % 8 == 0 { console.clone() } else { inputs::font(&mut r) };

@@ -6,6 +6,7 @@ pub mod header;
 pub mod join;
 pub mod lines;
 pub mod numbers;
+pub mod pack;
 pub mod pairs;
 pub mod stack;
 pub mod wrap;

@@ -1,0 +1,2 @@
+-- The laws of lists that hold letters.
+pub mod HeldLaws

@@ -1,0 +1,2 @@
+-- Which letters two lists hold.
+pub mod Held

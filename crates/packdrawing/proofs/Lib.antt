@@ -1,0 +1,4 @@
+-- The laws of drawing from a pack.
+pub mod PackCases
+pub mod FontAndPack
+pub mod Answers

@@ -1,0 +1,2 @@
+-- The meaning of drawing from a pack.
+pub mod PackDrawing

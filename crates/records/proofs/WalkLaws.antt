@@ -1,0 +1,212 @@
+-- A walk over the records of a pack, one record at a time.
+-- Assumes nothing.
+use mathlib.Core.Path.{_≡_, refl, sym, ap, _∙_, subst}
+use mathlib.Core.Bool.{Bool, true, false, cond, not, _&&_, _||_}
+use mathlib.Core.List.{List, [], _∷_}
+use Prim.Native.Nat.{ℕ, zero, suc, _+_, _-_, _*_, _≤_, _<_}
+use native.Mathlib.Omega.{arith}
+use native.Mathlib.Nat.{add-zero, zero-add, add-assoc}
+use lib.Dec.{eqb}
+use lib.ListN.{length, take, drop, length-drop}
+use lib.Seq.{drop-drop}
+use Rattle.ground.proofs.Runs.{rest-is}
+use Rattle.ground.proofs.Tests.{clash}
+use Rattle.records.specs.declared.Head.{Head}
+use Rattle.records.specs.declared.Scan.{Scan}
+use Rattle.records.specs.declared.Scan.the-variants.{Record, End, Damaged}
+use Rattle.records.specs.declared.Skim.the-variants as skimmed
+use Rattle.records.specs.declared.Place.{Place}
+use Rattle.records.specs.declared.Place.the-variants.{At, Nowhere}
+use Rattle.records.specs.declared.Spot.{Spot}
+use Rattle.records.specs.declared.Spot.the-variants.{Free, Tail}
+use Rattle.records.specs.declared.Verdict.{Verdict}
+use Rattle.records.specs.declared.Verdict.the-variants.{Sound, Broken}
+use Rattle.records.specs.Versions.{recordHeadLength}
+use Rattle.records.specs.Records.{isLive, codeIn, widthIn, Listing, ends, withRecord, listing, isLiveOf, hasLive, noneTwice, liveCount, isFreeOf}
+use Rattle.records.specs.Steps.{scanOf, skimOf, Walkable, placeIn, isPlace, spotIn, counted, verdict}
+use Rattle.records.proofs.ListingLaws.{Stands, scan-record, scan-end, scan-damaged, skim-scan, skim-scan-end}
+
+-- What the records from a place on are.
+abbrev pub recordsAt : Head → List ℕ → ℕ → List (List ℕ)
+recordsAt f s at = listing f (drop at s) .records
+
+-- A record that stands at a place, with all that a walk needs of it.
+pub record Next (f : Head) (s : List ℕ) (at : ℕ) (live : Bool) (code width size : ℕ) : Type 0 where
+  pub listed : listing f (drop at s) ≡ withRecord (take size (drop at s)) (listing f (drop (at + size) s))
+  pub live-is : isLive (take size (drop at s)) ≡ live
+  pub code-is : codeIn (take size (drop at s)) ≡ code
+  pub width-is : widthIn f (take size (drop at s)) ≡ width
+  pub long : length (take size (drop at s)) ≡ size
+  pub size-is : size ≡ recordHeadLength (f .version) + f .height * width
+  pub some : 0 < size
+  pub inside : at ≤ length s → at + size ≤ length s
+
+module _ (f : Head) (s : List ℕ) (at : ℕ) where
+  pub next-at : (live : Bool) (code width size : ℕ) → Record live code width size ≡ scanOf f (take (length s - at) (drop at s)) → Next f s at live code width size
+  next-at live code width size e =
+      let x = scan-record f (drop at s) live code width size (e ∙ ap (scanOf f) (rest-is s at)) in
+      record {
+        listed = x .listed ∙ ap (λ (l : List ℕ). withRecord (take size (drop at s)) (listing f l)) (drop-drop size at s);
+        live-is = x .live-is;
+        code-is = x .code-is;
+        width-is = x .width-is;
+        long = x .long;
+        size-is = x .size-is;
+        some = x .some;
+        inside = λ h. omega (arith, x .inside, length-drop at s);
+      }
+
+  pub end-at : End ≡ scanOf f (take (length s - at) (drop at s)) → listing f (drop at s) ≡ ends true
+  end-at e = scan-end f (drop at s) (e ∙ ap (scanOf f) (rest-is s at))
+
+  pub damaged-at : Damaged ≡ scanOf f (take (length s - at) (drop at s)) → listing f (drop at s) ≡ ends false
+  damaged-at e = scan-damaged f (drop at s) (e ∙ ap (scanOf f) (rest-is s at))
+
+  -- A walk over the heads alone.
+  module _ (w : Walkable f s at) where
+    part-whole : listing f (take (length s - at) (drop at s)) .whole ≡ true
+    part-whole = ap (λ (l : List ℕ). listing f l .whole) (rest-is s at) ∙ w .whole
+
+    pub walk-part : (f .height ≤ 32) × (listing f (take (length s - at) (drop at s)) .whole ≡ true)
+    walk-part = (w .low, part-whole)
+
+    pub skim-at : (live : Bool) (code width size : ℕ) → skimmed.Record live code width size ≡ skimOf f (take (length s - at) (drop at s)) → Next f s at live code width size
+    skim-at live code width size e = next-at live code width size (skim-scan f (take (length s - at) (drop at s)) live code width size part-whole e)
+
+    pub skim-end : skimmed.End ≡ skimOf f (take (length s - at) (drop at s)) → listing f (drop at s) ≡ ends true
+    skim-end e = end-at (skim-scan-end f (take (length s - at) (drop at s)) e)
+
+    pub walk-on : (live : Bool) (code width size : ℕ) → Next f s at live code width size → Walkable f s (at + size)
+    walk-on live code width size x = record { low = w .low; inside = x .inside (w .inside); whole = sym (ap (λ (y : Listing). y .whole) (x .listed)) ∙ w .whole }
+
+  -- A search for a live record.
+  module _ (code : ℕ) where
+    pub place-none : (b : Bool) → listing f (drop at s) ≡ ends b → placeIn f code at (recordsAt f s at) ≡ Nowhere
+    unfolding placeIn
+    place-none b e = ap (λ (x : Listing). placeIn f code at (x .records)) e
+
+  module _ (live : Bool) (c width size : ℕ) (x : Next f s at live c width size) where
+    r : List ℕ
+    r = take size (drop at s)
+
+    more : List (List ℕ)
+    more = recordsAt f s (at + size)
+
+    place-step : (code : ℕ) → placeIn f code at (recordsAt f s at) ≡ cond (live && eqb c code) (At at width) (placeIn f code (at + size) more)
+    unfolding placeIn isLiveOf r more
+    place-step code =
+        ap (λ (y : Listing). placeIn f code at (y .records)) (x .listed) ∙
+        ap (λ (b : Bool). cond (b && eqb (codeIn r) code) (At at (widthIn f r)) (placeIn f code (at + length r) more)) (x .live-is) ∙
+        ap (λ (b : ℕ). cond (live && eqb b code) (At at (widthIn f r)) (placeIn f code (at + length r) more)) (x .code-is) ∙
+        ap (λ (b : ℕ). cond (live && eqb c code) (At at b) (placeIn f code (at + length r) more)) (x .width-is) ∙
+        ap (λ (b : ℕ). cond (live && eqb c code) (At at width) (placeIn f code (at + b) more)) (x .long)
+
+    pub place-here : (code : ℕ) → (live && eqb c code) ≡ true → placeIn f code at (recordsAt f s at) ≡ At at width
+    place-here code e = place-step code ∙ ap (λ (b : Bool). cond b (At at width) (placeIn f code (at + size) more)) e
+
+    pub place-next : (code : ℕ) → (live && eqb c code) ≡ false → placeIn f code at (recordsAt f s at) ≡ placeIn f code (at + size) (recordsAt f s (at + size))
+    unfolding more
+    place-next code e = place-step code ∙ ap (λ (b : Bool). cond b (At at width) (placeIn f code (at + size) more)) e
+
+    spot-step : (w : ℕ) → spotIn f w at (recordsAt f s at) ≡ cond (not live && eqb width w) (Free at) (spotIn f w (at + size) more)
+    unfolding spotIn isFreeOf r more
+    spot-step w =
+        ap (λ (y : Listing). spotIn f w at (y .records)) (x .listed) ∙
+        ap (λ (b : Bool). cond (not b && eqb (widthIn f r) w) (Free at) (spotIn f w (at + length r) more)) (x .live-is) ∙
+        ap (λ (b : ℕ). cond (not live && eqb b w) (Free at) (spotIn f w (at + length r) more)) (x .width-is) ∙
+        ap (λ (b : ℕ). cond (not live && eqb width w) (Free at) (spotIn f w (at + b) more)) (x .long)
+
+    pub spot-here : (w : ℕ) → (not live && eqb width w) ≡ true → spotIn f w at (recordsAt f s at) ≡ Free at
+    spot-here w e = spot-step w ∙ ap (λ (b : Bool). cond b (Free at) (spotIn f w (at + size) more)) e
+
+    pub spot-next : (w : ℕ) → (not live && eqb width w) ≡ false → spotIn f w at (recordsAt f s at) ≡ spotIn f w (at + size) (recordsAt f s (at + size))
+    unfolding more
+    spot-next w e = spot-step w ∙ ap (λ (b : Bool). cond b (Free at) (spotIn f w (at + size) more)) e
+
+    -- The count of the live records, if all are good.
+    pub counted-next : (n : ℕ) → counted n (listing f (drop at s)) ≡ counted (n + cond live 1 0) (listing f (drop (at + size) s))
+    unfolding counted liveCount r more
+    counted-next n =
+        let w = listing f (drop (at + size) s) .whole in
+        ap (counted n) (x .listed) ∙
+        ap (λ (b : Bool). cond w (Sound (n + (cond b 1 0 + liveCount more))) Broken) (x .live-is) ∙
+        ap (λ (b : ℕ). cond w (Sound b) Broken) (sym (add-assoc n (cond live 1 0) (liveCount more)))
+
+    -- The test for repeated codes.
+    twice-step : noneTwice (recordsAt f s at) ≡ (not (live && hasLive c more) && noneTwice more)
+    unfolding noneTwice r more
+    twice-step =
+        ap (λ (y : Listing). noneTwice (y .records)) (x .listed) ∙
+        ap (λ (b : Bool). not (b && hasLive (codeIn r) more) && noneTwice more) (x .live-is) ∙
+        ap (λ (b : ℕ). not (live && hasLive b more) && noneTwice more) (x .code-is)
+
+    pub twice-here : (live && hasLive c (recordsAt f s (at + size))) ≡ true → noneTwice (recordsAt f s at) ≡ false
+    unfolding more
+    twice-here e = twice-step ∙ ap (λ (b : Bool). not b && noneTwice more) e
+
+    pub twice-next : (live && hasLive c (recordsAt f s (at + size))) ≡ false → noneTwice (recordsAt f s at) ≡ noneTwice (recordsAt f s (at + size))
+    unfolding more
+    twice-next e = twice-step ∙ ap (λ (b : Bool). not b && noneTwice more) e
+
+  pub spot-none : (w : ℕ) (b : Bool) → listing f (drop at s) ≡ ends b → spotIn f w at (recordsAt f s at) ≡ Tail at
+  unfolding spotIn
+  spot-none w b e = ap (λ (x : Listing). spotIn f w at (x .records)) e
+
+  pub twice-none : (b : Bool) → listing f (drop at s) ≡ ends b → noneTwice (recordsAt f s at) ≡ true
+  unfolding noneTwice
+  twice-none b e = ap (λ (x : Listing). noneTwice (x .records)) e
+
+  pub counted-end : (n : ℕ) → listing f (drop at s) ≡ ends true → counted n (listing f (drop at s)) ≡ Sound n
+  unfolding counted liveCount
+  counted-end n e = ap (counted n) e ∙ ap Sound (add-zero n)
+
+  pub counted-damaged : (n : ℕ) → listing f (drop at s) ≡ ends false → counted n (listing f (drop at s)) ≡ Broken
+  unfolding counted
+  counted-damaged n e = ap (counted n) e
+
+-- The test of all records is the count, where no code repeats.
+pub record Countable (n : ℕ) (x : Listing) : Type 0 where
+  pub whole : x .whole ≡ true
+  pub count : n ≡ liveCount (x .records)
+
+module _ (x : Listing) where
+  pub counted-whole : (n : ℕ) → Sound n ≡ counted 0 x → Countable n x
+  unfolding counted
+  counted-whole n e = go (x .whole) refl e
+    where
+      go : (w : Bool) → x .whole ≡ w → Sound n ≡ cond w (Sound (0 + liveCount (x .records))) Broken → Countable n x
+      go true p e = let k : n ≡ 0 + liveCount (x .records) = cc in record { whole = p; count = k ∙ zero-add (liveCount (x .records)) }
+      go false p e = clash (cc)
+
+  pub verdict-broken : Broken ≡ counted 0 x → Broken ≡ verdict x
+  unfolding counted verdict
+  verdict-broken e = go (x .whole) (noneTwice (x .records)) e
+    where
+      go : (w b : Bool) → Broken ≡ cond w (Sound (0 + liveCount (x .records))) Broken → Broken ≡ cond (w && b) (Sound (liveCount (x .records))) Broken
+      go true b e = clash (cc)
+      go false b e = refl
+
+  pub verdict-sound : (n : ℕ) → Countable n x → noneTwice (x .records) ≡ true → Sound n ≡ verdict x
+  unfolding verdict
+  verdict-sound n k e = ap Sound (k .count) ∙ sym (rw (k .whole, e))
+
+  pub verdict-twice : (n : ℕ) → Countable n x → noneTwice (x .records) ≡ false → Broken ≡ verdict x
+  unfolding verdict
+  verdict-twice n k e = sym (rw (k .whole, e))
+
+-- A place is found exactly where there is such a live record.
+pub place-has : (f : Head) (code at : ℕ) (rs : List (List ℕ)) → isPlace (placeIn f code at rs) ≡ hasLive code rs
+unfolding placeIn hasLive
+place-has f code at [] = refl
+place-has f code at (r ∷ rs) = go (isLiveOf code r) (place-has f code (at + length r) rs)
+  where
+    go : (b : Bool) → isPlace (placeIn f code (at + length r) rs) ≡ hasLive code rs → isPlace (cond b (At at (widthIn f r)) (placeIn f code (at + length r) rs)) ≡ (b || hasLive code rs)
+    go true e = refl
+    go false e = e
+
+pub yes-and : (l b h : Bool) → l ≡ true → b ≡ h → b ≡ (l && h)
+yes-and l b h e q = rw e q
+
+pub count-le : (n at size : ℕ) (live : Bool) → n ≤ at → 0 < size → n + cond live 1 0 ≤ at + size
+count-le n at size true h k = omega arith
+count-le n at size false h k = omega arith

@@ -1,0 +1,162 @@
+/* The calls on a pack over hostile input, for tests/hostile: each input that comes from standard input is given to all six, and each answers a line. Every area lies
+ * between two pages that nobody may touch, first at their end and then at their start, so that a byte beside it ends the program, as a call of over a second does. */
+#define _DEFAULT_SOURCE
+#include "wattleslate.h"
+#include <stdbool.h>
+#include <stdio.h>
+#include <stdlib.h>
+#include <string.h>
+#include <sys/mman.h>
+#include <unistd.h>
+
+enum { PACK, ROWS, CONTROL, TEXT, SCRATCH, OUT, AREAS };
+enum { CHECK, FIND, PUT, REMOVE, COMPACT, DRAW, CALLS };
+#define ROOM ((size_t)1 << 18)
+
+/* An input: what is asked, and the bytes that the first four areas hold. */
+static struct {
+    int32_t code;
+    uint64_t width, layout, direction;
+    uint32_t lengths[AREAS];
+} asked;
+static uint8_t held[TEXT + 1][ROOM];
+
+/* The pages of each area, the area in them, and what it held after the run before. */
+static uint8_t *pages[AREAS], *area[AREAS], before[AREAS][ROOM];
+
+static void take(void *bytes, size_t length) {
+    if (fread(bytes, 1, length, stdin) != length) {
+        exit(2);
+    }
+}
+
+static void make_pages(void) {
+    size_t page = (size_t)sysconf(_SC_PAGESIZE);
+    for (int i = 0; i < AREAS; i++) {
+        uint8_t *all = mmap(NULL, ROOM + 2 * page, PROT_READ | PROT_WRITE, MAP_PRIVATE | MAP_ANONYMOUS, -1, 0);
+        if (all == MAP_FAILED || mprotect(all, page, PROT_NONE) != 0 || mprotect(all + page + ROOM, page, PROT_NONE) != 0) {
+            exit(2);
+        }
+        pages[i] = all + page;
+    }
+}
+
+/* The areas as they are lent: the last two hold what is not zero. */
+static void lend(bool at_end) {
+    for (int i = 0; i < AREAS; i++) {
+        area[i] = pages[i] + (at_end ? ROOM - asked.lengths[i] : 0);
+        if (i <= TEXT) {
+            memcpy(area[i], held[i], asked.lengths[i]);
+        } else {
+            memset(area[i], 165, asked.lengths[i]);
+        }
+    }
+}
+
+static uint64_t answer_of(int call) {
+    const uint32_t *n = asked.lengths;
+    switch (call) {
+    case CHECK:
+        return wattleslate_pack_check(area[PACK], n[PACK]);
+    case FIND:
+        return wattleslate_pack_find(area[PACK], n[PACK], asked.code);
+    case PUT:
+        return wattleslate_pack_put(area[PACK], n[PACK], asked.code, asked.width, area[ROWS], n[ROWS]);
+    case REMOVE:
+        return wattleslate_pack_remove(area[PACK], n[PACK], asked.code);
+    case COMPACT:
+        return wattleslate_pack_compact(area[PACK], n[PACK]);
+    default:
+        return wattleslate_draw_pack(area[PACK], n[PACK], asked.layout, asked.direction, area[CONTROL], n[CONTROL], area[TEXT], n[TEXT], area[SCRATCH],
+                                     n[SCRATCH], area[OUT], n[OUT]);
+    }
+}
+
+static bool all_zero(const uint8_t *bytes, size_t length) {
+    size_t at = 0;
+    while (at < length && bytes[at] == 0) {
+        at++;
+    }
+    return at == length;
+}
+
+/* Whether the output holds rows of a width, each with an LF and none with another byte under 32, and zeros behind. */
+static bool is_drawing(size_t height, size_t width) {
+    size_t length = WATTLESLATE_DRAWN(height, width);
+    for (size_t at = 0; at < length; at++) {
+        bool is_end = at % (width + 1) == width;
+        if (at == asked.lengths[OUT] || (is_end ? area[OUT][at] != '\n' : area[OUT][at] < 32)) {
+            return false;
+        }
+    }
+    return all_zero(area[OUT] + length, asked.lengths[OUT] - length);
+}
+
+/* Whether the areas hold what they must after a call: what is only read as it was, after a refusal a pack as it was and the other areas zeros, else a pack that is
+ * accepted, a part of the pack, or a drawing. */
+static bool is_right(int call, uint64_t answer) {
+    const uint32_t *n = asked.lengths;
+    bool refused = wattleslate_number(answer) != WATTLESLATE_NOT_REFUSED, changes = call == PUT || call == REMOVE || call == COMPACT;
+    uint64_t check = wattleslate_pack_check(area[PACK], n[PACK]);
+    size_t height = wattleslate_height(check), width = wattleslate_width(answer);
+    if ((refused || !changes) && memcmp(area[PACK], held[PACK], n[PACK]) != 0) {
+        return false;
+    }
+    if (memcmp(area[ROWS], held[ROWS], n[ROWS]) != 0 || memcmp(area[CONTROL], held[CONTROL], n[CONTROL]) != 0 || memcmp(area[TEXT], held[TEXT], n[TEXT]) != 0) {
+        return false;
+    }
+    if (call == DRAW && (!all_zero(area[SCRATCH], n[SCRATCH]) || (refused ? !all_zero(area[OUT], n[OUT]) : !is_drawing(height, width)))) {
+        return false;
+    }
+    if (call == FIND && !refused && wattleslate_rows_place(answer) + height * width > n[PACK]) {
+        return false;
+    }
+    return refused || wattleslate_number(check) == WATTLESLATE_NOT_REFUSED;
+}
+
+/* Whether the areas hold what they held in the run before. */
+static bool as_before(void) {
+    for (int i = 0; i < AREAS; i++) {
+        if (memcmp(before[i], area[i], asked.lengths[i]) != 0) {
+            return false;
+        }
+    }
+    return true;
+}
+
+static void keep(void) {
+    for (int i = 0; i < AREAS; i++) {
+        memcpy(before[i], area[i], asked.lengths[i]);
+    }
+}
+
+/* Makes a call twice and prints its answer's number and place, and whether all is right and the same both times. */
+static void try_call(int call) {
+    (void)alarm(1);
+    lend(true);
+    uint64_t answer = answer_of(call);
+    bool right = is_right(call, answer);
+    keep();
+    lend(false);
+    bool same = answer_of(call) == answer && as_before();
+    (void)alarm(0);
+    printf("%d %llu %d\n", (int)wattleslate_number(answer), (unsigned long long)wattleslate_place(answer), right && same);
+    (void)fflush(stdout);
+}
+
+int main(void) {
+    make_pages();
+    while (fread(&asked.code, 1, sizeof asked.code, stdin) == sizeof asked.code) {
+        take(&asked.width, sizeof asked.width);
+        take(&asked.layout, sizeof asked.layout);
+        take(&asked.direction, sizeof asked.direction);
+        take(asked.lengths, sizeof asked.lengths);
+        for (int i = PACK; i <= TEXT; i++) {
+            take(held[i], asked.lengths[i]);
+        }
+        for (int call = 0; call < CALLS; call++) {
+            try_call(call);
+        }
+    }
+    return 0;
+}
