@@ -1,10 +1,10 @@
--- `wattleslate::which_of` meets its contract: a used entry is the code's own exactly if it has that code.
+-- `reader::which_of` meets its contract: a used entry is the code's own exactly if it has that code.
 -- Assumes nothing.
 use mathlib.Core.Path.{sym, _∙_}
 use borrow.Author.Needs.{needs}
 use Rattle.reader.proofs.ThreeLaws.{own-found, other-stood-in}
-use Rattle.wattleslate.proofs.which_of.Statement.{statement}
-use Rattle.wattleslate.proofs.which_of.Tie as tie
+use Rattle.reader.proofs.which_of.Statement.{statement}
+use Rattle.reader.proofs.which_of.Tie as tie
 
 same-code-requires : tie.Need-same-code-requires
 same-code-requires c κs = search needs

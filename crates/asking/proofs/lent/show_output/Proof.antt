@@ -1,12 +1,12 @@
--- `asking::areas::show_output` is safe and ends.
+-- `asking::lent::show_output` is safe and ends.
 -- Assumes nothing.
 use mathlib.Core.Path.{_≡_, refl, _∙_}
 use Prim.Native.Nat.{_-_}
 use native.Mathlib.Omega.{arith}
 use lib.ListN.{length, length-set}
 use borrow.Author.Needs.{needs}
-use Rattle.asking.proofs.areas.show_output.Statement.{statement}
-use Rattle.asking.proofs.areas.show_output.Tie as tie
+use Rattle.asking.proofs.lent.show_output.Statement.{statement}
+use Rattle.asking.proofs.lent.show_output.Tie as tie
 
 abbrev Inv-loop : tie.InvT-loop
 Inv-loop out₀ i₀ out i = length out ≡ length out₀

@@ -1,13 +1,23 @@
 // The areas that are lent for an answer, and how they are shown.
+use crate::printing::counted;
+use crate::printing::named;
 use crate::printing::quoted;
+use crate::printing::refused;
 use crate::printing::text;
+use drawing::DrawAnswer;
 
-// The array of which it is lent.
+// The arrays of which an output and a scratch are lent.
 pub const MOST_ROOM: usize = 2100;
 
-// An area that holds something before it is written to.
+pub const MOST_SCRATCH: usize = 32001;
+
+// Areas that hold something before they are written to.
 pub fn used_output() -> [u8; MOST_ROOM] {
     [9u8; MOST_ROOM]
+}
+
+pub fn used_scratch() -> [u8; MOST_SCRATCH] {
+    [9u8; MOST_SCRATCH]
 }
 
 // A byte of an output as it is printed: LF as `;`, and zero as `.`.
@@ -49,4 +59,21 @@ pub fn show_scratch(scratch: &[u8]) {
         return;
     }
     text(b", scratch NOT all zeros");
+}
+
+fn show_answer(answer: DrawAnswer) {
+    match answer {
+        DrawAnswer::Drawn { width, counts } => {
+            named(b"width ", width);
+            counted(counts.stood_in, counts.nothing_drawn);
+        }
+        DrawAnswer::Refused(r) => refused(r.number, r.place),
+    }
+}
+
+// What came of a drawing: the answer, all of the output, and whether the scratch is all zeros.
+pub fn show_drawing(answer: DrawAnswer, scratch: &[u8], out: &mut [u8]) {
+    show_answer(answer);
+    show_output(out);
+    show_scratch(scratch);
 }

@@ -1,10 +1,10 @@
--- `asking::areas::all_zeros` is safe and ends.
+-- `asking::lent::all_zeros` is safe and ends.
 -- Assumes nothing.
 use Prim.Native.Nat.{_-_}
 use native.Mathlib.Omega.{arith}
 use lib.ListN.{length}
-use Rattle.asking.proofs.areas.all_zeros.Statement.{statement}
-use Rattle.asking.proofs.areas.all_zeros.Tie as tie
+use Rattle.asking.proofs.lent.all_zeros.Statement.{statement}
+use Rattle.asking.proofs.lent.all_zeros.Tie as tie
 
 abbrev Inv-loop : tie.InvT-loop
 Inv-loop area i₀ i = Unit {0}

@@ -1,4 +1,4 @@
--- The two halves of the scratch, each filled in its turn.
+-- The two halves of a lent area, each filled in its turn.
 -- Assumes nothing.
 use mathlib.Core.Path.{_≡_, sym, _∙_, ap, ap₂}
 use mathlib.Core.List.{List, [], _++_, append-nil}
@@ -9,8 +9,8 @@ use lib.Seq.{length-take-le, take-all, take-append-seam, drop-append-seam}
 use borrow.Rule.Slice.PartMut.{putMid, same-len-mid}
 
 -- a list s whose first k are replaced by p, and then the rest by q
-module _ (k : ℕ) (s p q : List ℕ) (long : k ≤ length s) (first : length p ≡ length (take k s)) where
-  abbrev pub mid : List ℕ
+module _ {A : Type 0} (k : ℕ) (s p q : List A) (long : k ≤ length s) (first : length p ≡ length (take k s)) where
+  abbrev pub mid : List A
   mid = p ++ drop k s
 
   abbrev pub rest : ℕ
@@ -30,14 +30,14 @@ module _ (k : ℕ) (s p q : List ℕ) (long : k ≤ length s) (first : length p 
 
   -- the second part is all that is left
   pub second-long : length (take rest (drop k mid)) ≡ length s - k
-  second-long = ap (λ (l : List ℕ). length (take rest l)) behind ∙ (ap length (take-all rest (drop k s) (omega (arith, mid-long, length-drop k s))) ∙ length-drop k s)
+  second-long = ap (λ (l : List A). length (take rest l)) behind ∙ (ap length (take-all rest (drop k s) (omega (arith, mid-long, length-drop k s))) ∙ length-drop k s)
 
   module _ (second : length q ≡ length (take rest (drop k mid))) where
     nothing-left : drop rest (drop k mid) ≡ []
     nothing-left = drop-of-length-le (drop k mid) {i = rest} (omega (arith, length-drop k mid))
 
     both : putMid k rest mid q ≡ p ++ q
-    both = ap₂ (λ (x y : List ℕ). x ++ (q ++ y)) front nothing-left ∙ ap (λ (x : List ℕ). p ++ x) (append-nil q)
+    both = ap₂ (λ (x y : List A). x ++ (q ++ y)) front nothing-left ∙ ap (λ (x : List A). p ++ x) (append-nil q)
 
     pub first-half : take k (putMid k rest mid q) ≡ p
     first-half = ap (take k) both ∙ (ap (λ (j : ℕ). take j (p ++ q)) (sym first-long) ∙ take-append-seam p q)
@@ -49,5 +49,8 @@ module _ (k : ℕ) (s p q : List ℕ) (long : k ≤ length s) (first : length p 
     same-long = same-len-mid k rest mid q second ∙ mid-long
 
 -- the part from k on is all behind it
-pub part-behind : (k : ℕ) (s : List ℕ) → take (length s - k) (drop k s) ≡ drop k s
+abbrev pub partBehind : {A : Type 0} → ℕ → List A → List A
+partBehind k s = take (length s - k) (drop k s)
+
+pub part-behind : {A : Type 0} (k : ℕ) (s : List A) → partBehind k s ≡ drop k s
 part-behind k s = take-all (length s - k) (drop k s) (omega (arith, length-drop k s))
