@@ -1,5 +1,5 @@
-/* What the parts of the command share. main.c has its words and options, stack.c puts names below one another, wrap.c draws a text in lines, pack.c and
- * packdraw.c have the words of pack, packfile.c writes its file, damage.c says what is wrong with one, letters.c takes letters out of a font, codes.c reads
+/* What the parts of the command share. main.c has its words and options, files.c takes fonts and control files, two.c draws with a second font behind the first,
+ * stack.c puts names below one another, wrap.c draws a text in lines, pack.c and packdraw.c have the words of pack, packfile.c writes its file, damage.c says what is wrong with one, letters.c takes letters out of a font, codes.c reads
  * codes, io.c reads and writes, lines.c cuts a file into lines, header.c reads the numbers of a font, refusals.c says why something was refused. */
 #ifndef CLI_H
 #define CLI_H
@@ -14,8 +14,9 @@ static inline enum status worse(enum status one, enum status other) {
     return one > other ? one : other;
 }
 
-/* The options. What was given for each stands in a call: the value, or the option itself where it takes none; NULL if it was not given. */
-enum { FONT, CONTROL, COLUMNS, SIZE, CODES, LAYOUT, DIRECTION, STRICT, HELP, SHOW_VERSION, OPTIONS_COUNT };
+/* The options. What was given for each stands in a call: the value, or the option itself where it takes none; NULL if it was not given. A second -f is an option of
+ * its own here. */
+enum { FONT, SECOND_FONT, CONTROL, COLUMNS, SIZE, CODES, LAYOUT, DIRECTION, STRICT, HELP, SHOW_VERSION, OPTIONS_COUNT };
 
 /* What the options want: 1,000 is WATTLESLATE_MAX_WIDTH, 65,536 WATTLESLATE_MAX_PACK, and 7 the head of a pack. */
 #define COLUMNS_WANTED "a number of columns from 0 to 1,000"
@@ -52,14 +53,15 @@ struct file {
     size_t length;
 };
 
-/* The files that drawing takes, and the height of the font. */
+/* The files that drawing takes, whether there is a second font behind the first, and the height of the first. */
 struct files {
-    struct file font, control;
+    struct file font, second, control;
+    bool two;
     uint32_t height;
 };
 
-/* Loads the font and the control file that were asked for and has the library read them. What is wrong with either is said once, not for each
- * name. */
+/* Loads the fonts and the control file that were asked for and has the library read them. What is wrong with any of them is said once, not for
+ * each name. */
 enum status take_files(const struct call *call, struct files *files);
 
 /* A text to draw: a name of the command line, or the line of standard input with that number, counted from 1 (0: a name). */
@@ -114,6 +116,12 @@ struct drawing {
 };
 struct drawing draw_line(const struct files *files, const struct text *text);
 
+/* The same with two fonts. */
+struct drawing draw_two(const struct files *files, const struct text *text);
+
+/* Whether the library draws with two fonts that it has read alone; what keeps it from that is told. */
+enum status check_two(const struct files *files);
+
 /* Writes the rows of a text that was drawn, and says how many of its bytes the font or the pack lacks, or why it was refused. */
 enum status put_text(const struct text *text, const struct drawing *drawing, const char *source, bool strict);
 
@@ -151,11 +159,18 @@ bool header_number(const struct file *font, enum parameter parameter, int64_t *v
 enum status file_refused(const struct file *file, uint64_t answer);
 enum status text_refused(const struct text *text, uint64_t answer);
 
+/* The same of two fonts that do not go together. */
+enum status fonts_refused(const struct files *files, uint64_t answer);
+
 /* The same of a letter that was to be put into a pack or removed from it. */
 enum status letter_refused(const struct file *pack, int32_t code, uint64_t answer);
 
 /* A code as a font's tag writes it: decimal, octal behind 0, hexadecimal behind 0x or 0X, with a minus or without one. */
 bool code_of(const uint8_t *word, size_t length, int32_t *code);
+
+/* A hardblank for messages: the byte where that can be shown, else \xNN. */
+#define HARDBLANK_NAME 5
+void name_hardblank(uint8_t hardblank, char name[HARDBLANK_NAME]);
 
 /* A code for messages: its number, and its character where that can be shown. */
 #define CODE_NAME 20

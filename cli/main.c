@@ -32,7 +32,7 @@ struct word {
 /* The first word is meant where none is given. Of two that both fit the longer one stands first. */
 static const struct word WORDS[] = {
     {"draw", DRAW, 0, ANY_NUMBER, "nothing", draw,
-     "  wattleslate [draw] [-f FONT] [-c CONTROL] [-w COLUMNS] [--strict] [NAME...]\n"
+     "  wattleslate [draw] [-f FONT [-f SECOND]] [-c CONTROL] [-w COLUMNS] [--strict] [NAME...]\n"
      "      draws each NAME, or without a NAME each line of standard input, and tells of bytes that are not in the font\n"},
     {"stack", STACK, 0, ANY_NUMBER, "nothing", stack,
      "  wattleslate stack [-f FONT] [-c CONTROL] [NAME...]\n"
@@ -71,7 +71,8 @@ struct option {
 
 static const struct option OPTIONS[] = {
     {"-f", "a FONT", DRAW | STACK | NEW | PUT | FROM_PACK, FONT,
-     "  -f FONT     take this FIGfont, and not the built-in one; pack draw takes layout and direction from it\n"},
+     "  -f FONT     take this FIGfont, and not the built-in one; pack draw takes layout and direction from it.\n"
+     "              draw takes a second one of the same height and hardblank for what the first lacks, and then wraps nothing\n"},
     {"-c", "a CONTROL", DRAW | STACK | FROM_PACK, CONTROL, "  -c CONTROL  map the characters by this control file first\n"},
     {"-w", COLUMNS_WANTED, DRAW, COLUMNS,
      "  -w COLUMNS  break a text at blanks into lines of at most COLUMNS; 0 breaks none. Without it a terminal's width is taken\n"},
@@ -104,33 +105,10 @@ enum status bad_use(const char *first, const char *second, const char *third) {
     return BAD_USE;
 }
 
-enum status take_files(const struct call *call, struct files *files) {
-    static uint8_t font_area[WATTLESLATE_MAX_FONT + 1], control_area[WATTLESLATE_MAX_CONTROL + 1];
-    enum status status = GOOD;
-    files->font = (struct file){"built-in font", built_in_font, built_in_font_length};
-    files->control = (struct file){"no control file", control_area, 0};
-    if (call->given[FONT] != NULL) {
-        status = load(&files->font, call->given[FONT], font_area, sizeof font_area);
-    }
-    if (call->given[CONTROL] != NULL) {
-        status = worse(status, load(&files->control, call->given[CONTROL], control_area, sizeof control_area));
-    }
-    if (status != GOOD) {
-        return status;
-    }
-    uint64_t answer = wattleslate_check_font(files->font.bytes, files->font.length);
-    files->height = wattleslate_height(answer);
-    if (wattleslate_number(answer) != WATTLESLATE_NOT_REFUSED) {
-        status = file_refused(&files->font, answer);
-    }
-    answer = wattleslate_check_control(files->control.bytes, files->control.length);
-    if (wattleslate_number(answer) != WATTLESLATE_NOT_REFUSED) {
-        status = file_refused(&files->control, answer);
-    }
-    return status;
-}
-
 struct drawing draw_line(const struct files *files, const struct text *text) {
+    if (files->two) {
+        return draw_two(files, text);
+    }
     static uint8_t scratch[WATTLESLATE_SCRATCH], out[WATTLESLATE_MAX_DRAWN];
     uint64_t answer = wattleslate_draw(files->font.bytes, files->font.length, files->control.bytes, files->control.length, text->bytes,
                                        text->length, scratch, sizeof scratch, out, sizeof out);
@@ -208,16 +186,17 @@ bool number_upto(const char *digits, size_t most, size_t *value) {
     return true;
 }
 
-/* The limit that -w gives, else that of the terminal. */
+/* The limit that -w gives, else that of the terminal. With two fonts there is none: the library does not wrap with them. */
 static enum status take_limit(const struct call *call, struct limit *limit) {
     const char *given = call->given[COLUMNS];
+    bool two = call->given[SECOND_FONT] != NULL;
     *limit = (struct limit){0, given != NULL};
     if (given == NULL) {
-        limit->columns = output_columns();
+        limit->columns = two ? 0 : output_columns();
     } else if (!number_upto(given, WATTLESLATE_MAX_WIDTH, &limit->columns)) {
         return bad_use("-w wants " COLUMNS_WANTED ", not ", given, "");
     }
-    return GOOD;
+    return two && limit->columns > 0 ? bad_use("-w ", given, " is not taken with two fonts, which draw a text in one line") : GOOD;
 }
 
 static enum status draw(const struct call *call) {
@@ -225,6 +204,7 @@ static enum status draw(const struct call *call) {
     struct text text;
     struct limit limit;
     enum step step = END;
+    const char *source = call->given[SECOND_FONT] == NULL ? "font" : "fonts";
     enum status status = take_limit(call, &limit);
     if (status == GOOD) {
         status = take_files(call, &files);
@@ -234,7 +214,7 @@ static enum status draw(const struct call *call) {
     }
     for (size_t number = 0; status != BAD_FILE && (step = next_text(call, number, &text)) == NEXT; number++) {
         struct drawing drawing = draw_within(&files, &text, &limit);
-        status = worse(status, put_text(&text, &drawing, "font", call->given[STRICT] != NULL));
+        status = worse(status, put_text(&text, &drawing, source, call->given[STRICT] != NULL));
     }
     return step == FAILED ? BAD_FILE : status;
 }
@@ -347,6 +327,18 @@ static const struct option *option_of(const char *argument, const char **value) 
     return NULL;
 }
 
+/* A second -f is the font behind the first. Of the words only draw takes one, and no word takes a third. */
+static enum status take_second_font(const struct word *word, const char *value, struct call *call) {
+    if (word->bit != DRAW) {
+        return bad_use(word->name, " takes one font, and not a second one: ", value);
+    }
+    if (call->given[SECOND_FONT] != NULL) {
+        return bad_use(word->name, " takes one font or two, and not a third one: ", value);
+    }
+    call->given[SECOND_FONT] = value;
+    return GOOD;
+}
+
 /* Takes the option that stands at the first of some arguments, and counts how many of them it has used. */
 static enum status take_option(const struct word *word, char **arguments, struct call *call, size_t *used) {
     const char *value;
@@ -366,6 +358,9 @@ static enum status take_option(const struct word *word, char **arguments, struct
     }
     if (value == NULL) {
         return bad_use(option->name, " wants ", option->wants);
+    }
+    if (option->place == FONT && call->given[FONT] != NULL) {
+        return take_second_font(word, value, call);
     }
     call->given[option->place] = value;
     return GOOD;

@@ -62,14 +62,13 @@ static struct sums record_sums(const struct file *pack) {
 }
 
 static enum status list_whole(const struct file *pack, uint64_t answer) {
-    char line[160];
+    char line[160], hardblank[HARDBLANK_NAME];
     struct sums sums = record_sums(pack);
     size_t used = WATTLESLATE_PACK_HEAD + sums.live;
-    uint8_t hardblank = pack->bytes[6];
-    int length = snprintf(line, sizeof line, "height %u, hardblank ", (unsigned)wattleslate_height(answer));
-    length += snprintf(line + length, sizeof line - (size_t)length, hardblank > 32 && hardblank < 127 ? "%c" : "\\x%02x", hardblank);
-    (void)snprintf(line + length, sizeof line - (size_t)length, ", letters %u, bytes %zu: %zu used, %zu in free records, %zu behind the last record\n",
-                   (unsigned)wattleslate_live(answer), pack->length, used, sums.free, pack->length - used - sums.free);
+    name_hardblank(pack->bytes[6], hardblank);
+    (void)snprintf(line, sizeof line, "height %u, hardblank %s, letters %u, bytes %zu: %zu used, %zu in free records, %zu behind the last record\n",
+                   (unsigned)wattleslate_height(answer), hardblank, (unsigned)wattleslate_live(answer), pack->length, used, sums.free,
+                   pack->length - used - sums.free);
     return put_string(line);
 }
 

@@ -33,6 +33,7 @@ static const struct refusal REFUSALS[] = {
     [WATTLESLATE_CODE_PRESENT]        = {false, "it is in the pack already"},
     [WATTLESLATE_CODE_ABSENT]         = {false, "it is not in the pack"},
     [WATTLESLATE_NO_ROOM]             = {false, "no free record has its width, and behind the last record there is too little room"},
+    [WATTLESLATE_FONTS_DIFFER]        = {false, "the heights or the hardblanks of the two fonts differ"}, /* fonts_refused says which */
 };
 /* clang-format on */
 
@@ -97,6 +98,30 @@ enum status file_refused(const struct file *file, uint64_t answer) {
         fprintf(stderr, " at byte %zu", place);
     }
     fputs(")\n", stderr);
+    return REFUSED;
+}
+
+void name_hardblank(uint8_t hardblank, char name[HARDBLANK_NAME]) {
+    (void)snprintf(name, HARDBLANK_NAME, hardblank > 32 && hardblank < 127 ? "%c" : "\\x%02x", hardblank);
+}
+
+enum status fonts_refused(const struct files *files, uint64_t answer) {
+    char one[HARDBLANK_NAME], other[HARDBLANK_NAME];
+    uint32_t height = wattleslate_height(wattleslate_check_font(files->second.bytes, files->second.length));
+    bool heights = files->height != height, hardblanks = files->font.bytes[5] != files->second.bytes[5];
+    name_hardblank(files->font.bytes[5], one);
+    name_hardblank(files->second.bytes[5], other);
+    show_string(files->font.name);
+    fputs(" and ", stderr);
+    show_string(files->second.name);
+    fputs(": ", stderr);
+    if (heights) {
+        fprintf(stderr, "their heights differ, %u and %u", (unsigned)files->height, (unsigned)height);
+    }
+    if (hardblanks) {
+        fprintf(stderr, "%stheir hardblanks differ, %s and %s", heights ? "; " : "", one, other);
+    }
+    fprintf(stderr, " (refusal %d)\n", (int)wattleslate_number(answer));
     return REFUSED;
 }
 

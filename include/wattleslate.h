@@ -22,6 +22,7 @@
  *     wattleslate_pack_remove     0               0          0
  *     wattleslate_pack_compact    0               0          0
  *     wattleslate_draw_pack       nothing drawn   stood in   width
+ *     wattleslate_draw_two        nothing drawn   stood in   width
  */
 #ifndef WATTLESLATE_H
 #define WATTLESLATE_H
@@ -102,7 +103,8 @@ enum wattleslate_refusal {
     WATTLESLATE_DAMAGED_PACK = 20,
     WATTLESLATE_CODE_PRESENT = 21,
     WATTLESLATE_CODE_ABSENT = 22,
-    WATTLESLATE_NO_ROOM = 23             /* no free record of that width, and too few bytes behind the last record */
+    WATTLESLATE_NO_ROOM = 23,            /* no free record of that width, and too few bytes behind the last record */
+    WATTLESLATE_FONTS_DIFFER = 24        /* the heights or the hardblanks of two fonts */
 };
 
 /* Layouts of a join and of drawing from a pack, as a font's Full_Layout: one of these, or SMUSHING plus rules 1 to 63. Any number up to 32,767 means what it means there. */
@@ -198,6 +200,16 @@ uint64_t wattleslate_draw_pack(const uint8_t *pack, size_t pack_len, size_t layo
                                size_t control_len, const uint8_t *text, size_t text_len, uint8_t *scratch, size_t scratch_len, uint8_t *out,
                                size_t out_len);
 
+/* Draws a line of text by two fonts of equal height and hardblank and a control file, which may be empty: wattleslate_draw, with a second font behind the first. A code
+ * is sought in the first font, then in the second; where neither has it, the character with code 0 of the first font stands in, without one that of the second, and
+ * without either nothing is drawn. A code that either font has is found, code 0 too, and not counted. Layout and direction are the first font's. The two may be the same
+ * area: the drawing is then that of wattleslate_draw. Refusals: 9 for a scratch under WATTLESLATE_SCRATCH bytes, 1 to 8 for the first font, 1 to 8 for the second, each
+ * with its place in that font, 24, 10 to 14, 15, 16, then 9 for `out`. The number does not tell which of the fonts it is about: wattleslate_check_font does. Values:
+ * wattleslate_nothing_drawn, wattleslate_stood_in and wattleslate_width. */
+uint64_t wattleslate_draw_two(const uint8_t *first, size_t first_len, const uint8_t *second, size_t second_len, const uint8_t *control,
+                              size_t control_len, const uint8_t *text, size_t text_len, uint8_t *scratch, size_t scratch_len, uint8_t *out,
+                              size_t out_len);
+
 /* Writes an empty pack of a height, 1 to 32, and a hardblank into an area of WATTLESLATE_PACK_HEAD bytes or more. The other bytes of the pack must be zeros: they
  * are the caller's to write. */
 static inline void wattleslate_empty_pack(uint8_t *pack, uint8_t height, uint8_t hardblank) {
@@ -234,12 +246,13 @@ static inline uint32_t wattleslate_lines(uint64_t answer) {
     return (uint16_t)answer;
 }
 
-/* Of wattleslate_draw, wattleslate_draw_wrapped and wattleslate_draw_pack: for how many text bytes the character with code 0 stood in. A refusal tells 0. */
+/* Of wattleslate_draw, wattleslate_draw_wrapped, wattleslate_draw_pack and wattleslate_draw_two: for how many text bytes the character with code 0 stood in. A refusal
+ * tells 0. */
 static inline uint32_t wattleslate_stood_in(uint64_t answer) {
     return wattleslate_number(answer) == WATTLESLATE_NOT_REFUSED ? (uint16_t)(answer >> WATTLESLATE_VALUE_BITS) : 0;
 }
 
-/* Of wattleslate_draw, wattleslate_draw_wrapped and wattleslate_draw_pack: for how many text bytes nothing was drawn. A refusal tells 0. */
+/* Of wattleslate_draw, wattleslate_draw_wrapped, wattleslate_draw_pack and wattleslate_draw_two: for how many text bytes nothing was drawn. A refusal tells 0. */
 static inline uint32_t wattleslate_nothing_drawn(uint64_t answer) {
     return wattleslate_number(answer) == WATTLESLATE_NOT_REFUSED ? (uint16_t)(answer >> (2 * WATTLESLATE_VALUE_BITS)) : 0;
 }

@@ -103,6 +103,8 @@ int main(void) {
     drawing_refused(19, 1023);
     drawing_refused(20, 0);
     drawing_refused(23, 0);
+    drawing_refused(WATTLESLATE_FONTS_DIFFER, 0);
+    same("the number of fonts that differ", WATTLESLATE_FONTS_DIFFER, 24);
     same("overlap of a join", wattleslate_overlap(values(0, 2, 3)), 2);
     same("overlap of a stack", wattleslate_stack_overlap(values(2, 10, 18)), 2);
     same("height", wattleslate_height(values(2, 10, 18)), 10);

@@ -1,4 +1,4 @@
-/* The calls on a pack over hostile input, for tests/hostile: each input that comes from standard input is given to all six, and each answers a line. Every area lies
+/* The calls on a pack and drawing with two fonts over hostile input, for tests/hostile: each input that comes from standard input is given to all seven, and each answers a line. Every area lies
  * between two pages that nobody may touch, first at their end and then at their start, so that a byte beside it ends the program, as a call of over a second does. */
 #define _DEFAULT_SOURCE
 #include "wattleslate.h"
@@ -9,11 +9,11 @@
 #include <sys/mman.h>
 #include <unistd.h>
 
-enum { PACK, ROWS, CONTROL, TEXT, SCRATCH, OUT, AREAS };
-enum { CHECK, FIND, PUT, REMOVE, COMPACT, DRAW, CALLS };
+enum { PACK, ROWS, FIRST, SECOND, CONTROL, TEXT, SCRATCH, OUT, AREAS };
+enum { CHECK, FIND, PUT, REMOVE, COMPACT, DRAW, DRAW_TWO, CALLS };
 #define ROOM ((size_t)1 << 18)
 
-/* An input: what is asked, and the bytes that the first four areas hold. */
+/* An input: what is asked, and the bytes that all areas but the last two hold. */
 static struct {
     int32_t code;
     uint64_t width, layout, direction;
@@ -66,6 +66,9 @@ static uint64_t answer_of(int call) {
         return wattleslate_pack_remove(area[PACK], n[PACK], asked.code);
     case COMPACT:
         return wattleslate_pack_compact(area[PACK], n[PACK]);
+    case DRAW_TWO:
+        return wattleslate_draw_two(area[FIRST], n[FIRST], area[SECOND], n[SECOND], area[CONTROL], n[CONTROL], area[TEXT], n[TEXT], area[SCRATCH], n[SCRATCH],
+                                    area[OUT], n[OUT]);
     default:
         return wattleslate_draw_pack(area[PACK], n[PACK], asked.layout, asked.direction, area[CONTROL], n[CONTROL], area[TEXT], n[TEXT], area[SCRATCH],
                                      n[SCRATCH], area[OUT], n[OUT]);
@@ -92,23 +95,39 @@ static bool is_drawing(size_t height, size_t width) {
     return all_zero(area[OUT] + length, asked.lengths[OUT] - length);
 }
 
+/* Whether the areas that a call only reads hold what they were lent with: all but a pack that is changed. */
+static bool are_kept(bool changes) {
+    for (int i = changes ? ROWS : PACK; i <= TEXT; i++) {
+        if (memcmp(area[i], held[i], asked.lengths[i]) != 0) {
+            return false;
+        }
+    }
+    return true;
+}
+
+/* Whether both areas of a drawing hold what they must: zeros after a refusal, else a drawing of a height. */
+static bool is_drawn(uint64_t answer, size_t height) {
+    bool refused = wattleslate_number(answer) != WATTLESLATE_NOT_REFUSED;
+    bool right = refused ? all_zero(area[OUT], asked.lengths[OUT]) : is_drawing(height, wattleslate_width(answer));
+    return right && all_zero(area[SCRATCH], asked.lengths[SCRATCH]);
+}
+
 /* Whether the areas hold what they must after a call: what is only read as it was, after a refusal a pack as it was and the other areas zeros, else a pack that is
  * accepted, a part of the pack, or a drawing. */
 static bool is_right(int call, uint64_t answer) {
-    const uint32_t *n = asked.lengths;
     bool refused = wattleslate_number(answer) != WATTLESLATE_NOT_REFUSED, changes = call == PUT || call == REMOVE || call == COMPACT;
-    uint64_t check = wattleslate_pack_check(area[PACK], n[PACK]);
+    uint64_t check = wattleslate_pack_check(area[PACK], asked.lengths[PACK]);
     size_t height = wattleslate_height(check), width = wattleslate_width(answer);
-    if ((refused || !changes) && memcmp(area[PACK], held[PACK], n[PACK]) != 0) {
+    if (!are_kept(changes && !refused)) {
         return false;
     }
-    if (memcmp(area[ROWS], held[ROWS], n[ROWS]) != 0 || memcmp(area[CONTROL], held[CONTROL], n[CONTROL]) != 0 || memcmp(area[TEXT], held[TEXT], n[TEXT]) != 0) {
+    if (call == DRAW_TWO) {
+        return is_drawn(answer, wattleslate_height(wattleslate_check_font(area[FIRST], asked.lengths[FIRST])));
+    }
+    if (call == DRAW && !is_drawn(answer, height)) {
         return false;
     }
-    if (call == DRAW && (!all_zero(area[SCRATCH], n[SCRATCH]) || (refused ? !all_zero(area[OUT], n[OUT]) : !is_drawing(height, width)))) {
-        return false;
-    }
-    if (call == FIND && !refused && wattleslate_rows_place(answer) + height * width > n[PACK]) {
+    if (call == FIND && !refused && wattleslate_rows_place(answer) + height * width > asked.lengths[PACK]) {
         return false;
     }
     return refused || wattleslate_number(check) == WATTLESLATE_NOT_REFUSED;

@@ -1,5 +1,5 @@
 // What the programs that answer requests share: a request taken apart into its words and blocks, the file that it names, and what is printed.
-pub mod areas;
+pub mod lent;
 pub mod printing;
 
 use lines::numbers;

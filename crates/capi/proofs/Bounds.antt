@@ -7,7 +7,7 @@ use Prim.Native.Nat.{ℕ, _*_, _/_, _%_, _≤_}
 use native.Mathlib.Omega.{arith}
 use lib.ListN.{length}
 use Rattle.ground.specs.Limits.{maxFontLength}
-use Rattle.ground.specs.Refusals.{stackTooHigh, noRoom}
+use Rattle.ground.specs.Refusals.{stackTooHigh, fontsDiffer}
 use Rattle.ground.specs.declared.refusals.Refusal.{Refusal}
 use Rattle.ground.proofs.Tests.{clash}
 use Rattle.subchars.specs.declared.Mode.{Mode}
@@ -55,12 +55,12 @@ pub values-apart : (a b c : ℕ) → ValuesFit a b c →
 values-apart a b c p = (omega arith, omega arith, omega arith, omega arith)
 
 -- A number of the table and a place in a file have room.
-pub table-fits : (number place : ℕ) → 1 ≤ number → number ≤ noRoom → place ≤ maxFontLength → RefusalFits number place
+pub table-fits : (number place : ℕ) → 1 ≤ number → number ≤ fontsDiffer → place ≤ maxFontLength → RefusalFits number place
 table-fits number place l m n = record { not-0 = l; number-in-16 = omega arith; place-in-48 = omega arith }
 
 -- A font's: its Height is at most 32, and it has at most 512 characters.
 module _ (s : List ℕ) where
-  font-fits : (r : Refusal) → reading s ≡ refuses r → RefusalFits (r .number) (r .place)
+  pub font-fits : (r : Refusal) → reading s ≡ refuses r → RefusalFits (r .number) (r .place)
   font-fits r e = let n = font-refusal s r e in table-fits _ _ (omega (arith, n .0)) (omega (arith, n .1)) (omega (arith, n .3))
 
   pub font-refusal-fits : (r : Refusal) → font-is.Refused r ≡ fontAnswer (reading s) → RefusalFits (r .number) (r .place)

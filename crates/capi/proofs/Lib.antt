@@ -3,3 +3,4 @@ pub mod JoinLaws
 pub mod StackLaws
 pub mod Bounds
 pub mod PackBounds
+pub mod TwoBounds

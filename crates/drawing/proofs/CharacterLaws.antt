@@ -1,6 +1,6 @@
 -- One character more: the line in the scratch area is the line with what was chosen for a code.
 -- Assumes nothing.
-use mathlib.Core.Path.{_≡_}
+use mathlib.Core.Path.{_≡_, refl, sym, subst}
 use mathlib.Core.Bool.{Bool, true, false}
 use Prim.Native.Nat.{ℕ, _≤_}
 use mathlib.Core.List.{List}
@@ -14,9 +14,25 @@ use Rattle.figure.proofs.Folding.{attached-like}
 use Rattle.ground.specs.Limits.{maxFontLength}
 use Rattle.source.specs.declared.Chosen.{Chosen}
 use Rattle.source.specs.declared.Chosen.the-variants as chosen
+use Rattle.source.specs.declared.Picked.{Picked}
+use Rattle.source.specs.declared.two.Which.{Which}
+use Rattle.source.specs.declared.two.Which.the-variants.{First, Second}
+use Rattle.source.specs.TwoFonts.{bytesIn}
 use Rattle.source.specs.Source.{Choice, found, stoodIn, nothing}
-use Rattle.source.specs.Steps.{Shows, ChosenAs}
+use Rattle.source.specs.Steps.{Shows, ChosenAs, PickedAs}
 use Rattle.drawing.specs.Steps.{withCharacter, Reached}
+
+-- What was picked in the bytes of one of two fonts is chosen in those bytes.
+pub picked-as : (s t bytes at : List ℕ) (h : ℕ) (p : Picked) (x : Choice) → bytes ≡ bytesIn (p .font) s t → PickedAs s t at h p x → ChosenAs bytes at h (p .chosen) x
+picked-as s t bytes at h p x e z = subst (λ (l : List ℕ). ChosenAs l at h (p .chosen) x) (sym e) (z .is)
+
+-- Where there is but one font, these are its bytes.
+in-one : (w : Which) (s : List ℕ) → s ≡ bytesIn w s s
+in-one First s = refl
+in-one Second s = refl
+
+pub picked-in-one : (s at : List ℕ) (h : ℕ) (p : Picked) (x : Choice) → PickedAs s s at h p x → ChosenAs s at h (p .chosen) x
+picked-in-one s at h p x z = picked-as s s s at h p x (in-one (p .font) s) z
 
 module _ (s at : List ℕ) (h : ℕ) (r : Chosen) where
   -- a chosen character has its rows in the bytes

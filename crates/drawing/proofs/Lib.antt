@@ -6,3 +6,4 @@ pub mod SizeLaws
 pub mod HeldLaws
 pub mod DrawingLaws
 pub mod Answers
+pub mod SourceAnswers

@@ -12,6 +12,8 @@ use reader::FontAnswer;
 use source::Chosen;
 use source::Counts;
 use source::Origin;
+use source::Picked;
+use source::two;
 use subchars::Code;
 use subchars::Direction;
 use subchars::Mode;
@@ -34,7 +36,7 @@ ghost use Rattle.flc.specs.Filling.{CommandRoom};
 ghost use Rattle.source.specs.Source.{Choice, Source};
 ghost use Rattle.source.specs.Counting.{countsOf};
 ghost use Rattle.source.specs.Held.{Gives};
-ghost use Rattle.source.specs.Steps.{ChosenAs};
+ghost use Rattle.source.specs.Steps.{ChosenAs, PickedAs};
 ghost use Rattle.drawing.specs.Drawing.{directionOf, modeOf, textCodes, byteChoice, lineOf, Lined, linedText, linedFrom, linedOf, drawLined, withCounts, PutOut};
 ghost use Rattle.drawing.specs.Held.{filesOf, FilesHeld};
 ghost use Rattle.drawing.specs.Steps.{withCharacter, Reached, TextDrawn};
@@ -122,9 +124,10 @@ fn code_of(byte: u8) -> Code
 }
 
 // The character that is drawn for a byte of a text, of the given height; where its rows start is written into a lent list.
-pub fn choose_byte(
+pub fn choose_byte<'a>(
     byte: u8,
-    font: &[u8],
+    font: &'a [u8],
+    second: &'a [u8],
     height: usize,
     origin: Origin,
     codes: &[i32],
@@ -137,17 +140,18 @@ pub fn choose_byte(
     lasts: &[i32],
     news: &[i32],
     found: &mut [usize],
-) -> Chosen
-    requires { ⌜ ((source : Source) × Gives source (now font) height origin (now codes) (now starts) (now widths) (now places)) ⌝ }
+) -> Picked
+    requires { ⌜ ((source : Source) × Gives source (now font) (now second) height origin (now codes) (now starts) (now widths) (now places)) ⌝ }
     requires { ⌜ ((control : List ℕ) × ControlHeld control commands (now stages) (now firsts) (now lasts) (now news)) ⌝ }
     requires { ⌜ maxHeight ≤ length (now found) ⌝ }
-    ensures { λ r. ⌜ ((source : Source) → Gives source (now (font .entry)) height origin (now (codes .entry)) (now (starts .entry)) (now (widths .entry)) (now (places .entry)) → (control : List ℕ) (held : ControlHeld control commands (now (stages .entry)) (now (firsts .entry)) (now (lasts .entry)) (now (news .entry))) → ChosenAs (now (font .entry)) (now (found .exit)) height r (byteChoice source (held .commands) (held .count) byte)) ⌝ }
+    ensures { λ r. ⌜ ((source : Source) → Gives source (now (font .entry)) (now (second .entry)) height origin (now (codes .entry)) (now (starts .entry)) (now (widths .entry)) (now (places .entry)) → (control : List ℕ) (held : ControlHeld control commands (now (stages .entry)) (now (firsts .entry)) (now (lasts .entry)) (now (news .entry))) → PickedAs (now (font .entry)) (now (second .entry)) (now (found .exit)) height r (byteChoice source (held .commands) (held .count) byte)) ⌝ }
 {
     let own = code_of(byte);
     let code = mapping::map_by(stages, firsts, lasts, news, commands, own);
     source::choose(
         code,
         font,
+        second,
         height,
         origin,
         codes,
@@ -159,13 +163,14 @@ pub fn choose_byte(
 }
 
 // Joins the characters of a text in turn, from an empty line on, and counts the codes that are not in the font. It stops where the line passes the limit.
-pub fn join_text(
+pub fn join_text<'a>(
     area: &mut [u8],
     text: &[u8],
     limit: usize,
     mode: Mode,
     height: usize,
-    font: &[u8],
+    font: &'a [u8],
+    second: &'a [u8],
     origin: Origin,
     codes: &[i32],
     starts: &[usize],
@@ -177,10 +182,10 @@ pub fn join_text(
     lasts: &[i32],
     news: &[i32],
 ) -> DrawnText
-    requires { ⌜ ((source : Source) × Gives source (now font) height origin (now codes) (now starts) (now widths) (now places)) ⌝ }
+    requires { ⌜ ((source : Source) × Gives source (now font) (now second) height origin (now codes) (now starts) (now widths) (now places)) ⌝ }
     requires { ⌜ ((control : List ℕ) × ControlHeld control commands (now stages) (now firsts) (now lasts) (now news)) ⌝ }
     requires { ⌜ (limit ≤ maxLineWidth) × (minScratch ≤ length (now area)) ⌝ }
-    ensures { λ d. ⌜ ((source : Source) (given : Gives source (now (font .entry)) height origin (now (codes .entry)) (now (starts .entry)) (now (widths .entry)) (now (places .entry))) (control : List ℕ) (held : ControlHeld control commands (now (stages .entry)) (now (firsts .entry)) (now (lasts .entry)) (now (news .entry))) → TextDrawn mode height limit source (textCodes (held .commands) (held .count) (now (text .entry))) d (now (area .exit))) ⌝ }
+    ensures { λ d. ⌜ ((source : Source) (given : Gives source (now (font .entry)) (now (second .entry)) height origin (now (codes .entry)) (now (starts .entry)) (now (widths .entry)) (now (places .entry))) (control : List ℕ) (held : ControlHeld control commands (now (stages .entry)) (now (firsts .entry)) (now (lasts .entry)) (now (news .entry))) → TextDrawn mode height limit source (textCodes (held .commands) (held .count) (now (text .entry))) d (now (area .exit))) ⌝ }
 {
     let rows = join::row_starts(limits::MAX_LINE_WIDTH, height);
     let mut found = [0usize; limits::MAX_HEIGHT];
@@ -188,9 +193,10 @@ pub fn join_text(
     let mut missing: usize = 0;
     let mut i: usize = 0;
     while i < text.len() {
-        let chosen = choose_byte(
+        let picked = choose_byte(
             text[i],
             font,
+            second,
             height,
             origin,
             codes,
@@ -204,7 +210,10 @@ pub fn join_text(
             news,
             &mut found,
         );
-        n = draw_chosen(area, chosen, &found, &rows, n, limit, mode, height, font);
+        let chosen = picked.chosen;
+        let its = picked.font;
+        let bytes = two::bytes_in(its, font, second);
+        n = draw_chosen(area, chosen, &found, &rows, n, limit, mode, height, bytes);
         missing = source::count_missing(missing, chosen);
         if limit < n {
             return DrawnText { width: n, missing };
@@ -249,13 +258,14 @@ fn put_out(
 }
 
 // Draws a text from a source of characters, by a control file that was read: 15, 16, then 9 for the output.
-pub fn draw_from(
+pub fn draw_from<'a>(
     out: &mut [u8],
     area: &mut [u8],
     text: &[u8],
     mode: Mode,
     height: usize,
-    font: &[u8],
+    font: &'a [u8],
+    second: &'a [u8],
     origin: Origin,
     codes: &[i32],
     starts: &[usize],
@@ -267,10 +277,10 @@ pub fn draw_from(
     lasts: &[i32],
     news: &[i32],
 ) -> DrawAnswer
-    requires { ⌜ ((source : Source) × Gives source (now font) height origin (now codes) (now starts) (now widths) (now places)) ⌝ }
+    requires { ⌜ ((source : Source) × Gives source (now font) (now second) height origin (now codes) (now starts) (now widths) (now places)) ⌝ }
     requires { ⌜ ((control : List ℕ) × ControlHeld control commands (now stages) (now firsts) (now lasts) (now news)) ⌝ }
     requires { ⌜ minScratch ≤ length (now area) ⌝ }
-    ensures { λ a. ⌜ ((source : Source) → Gives source (now (font .entry)) height origin (now (codes .entry)) (now (starts .entry)) (now (widths .entry)) (now (places .entry)) → (control : List ℕ) → ControlHeld control commands (now (stages .entry)) (now (firsts .entry)) (now (lasts .entry)) (now (news .entry)) → PutOut (linedFrom mode height source (flc.control control) (now (text .entry))) (length (now (out .entry))) a (now (out .exit))) ⌝ }
+    ensures { λ a. ⌜ ((source : Source) → Gives source (now (font .entry)) (now (second .entry)) height origin (now (codes .entry)) (now (starts .entry)) (now (widths .entry)) (now (places .entry)) → (control : List ℕ) → ControlHeld control commands (now (stages .entry)) (now (firsts .entry)) (now (lasts .entry)) (now (news .entry)) → PutOut (linedFrom mode height source (flc.control control) (now (text .entry))) (length (now (out .entry))) a (now (out .exit))) ⌝ }
 {
     if limits::MAX_TEXT < text.len() {
         let number = refusals::TEXT_TOO_LONG;
@@ -284,6 +294,7 @@ pub fn draw_from(
         mode,
         height,
         font,
+        second,
         origin,
         codes,
         starts,
@@ -296,7 +307,17 @@ pub fn draw_from(
         news,
     );
     let missing = drawn.missing;
-    let counts = source::counts_of(missing, font, height, origin, codes, starts, widths, places);
+    let counts = source::counts_of(
+        missing,
+        font,
+        second,
+        height,
+        origin,
+        codes,
+        starts,
+        widths,
+        places,
+    );
     put_out(out, area, mode, height, drawn.width, counts)
 }
 
@@ -331,6 +352,7 @@ pub fn draw_line(
             text,
             mode_of(header),
             header.height,
+            font,
             font,
             Origin::Font { count },
             codes,

@@ -1,42 +1,20 @@
 // What is printed about a drawing: the answer, all of the output, and whether the scratch is all zeros.
-use asking::areas::MOST_ROOM;
-use asking::areas::show_output;
-use asking::areas::show_scratch;
-use asking::areas::used_output;
 use asking::behind;
+use asking::lent;
+use asking::lent::MOST_ROOM;
+use asking::lent::MOST_SCRATCH;
+use asking::lent::used_output;
+use asking::lent::used_scratch;
 use asking::load;
 use asking::past_byte;
-use asking::printing::counted;
-use asking::printing::named;
-use asking::printing::refused;
 use asking::row_of;
 use asking::word_of;
-use drawing::DrawAnswer;
 ghost use Prim.Native.Nat.{_≤_};
-
-// The array of which a scratch is lent.
-const MOST_SCRATCH: usize = 32001;
-
-fn show_answer(answer: DrawAnswer) {
-    match answer {
-        DrawAnswer::Drawn { width, counts } => {
-            named(b"width ", width);
-            counted(counts.stood_in, counts.nothing_drawn);
-        }
-        DrawAnswer::Refused(r) => refused(r.number, r.place),
-    }
-}
-
-// A scratch that holds something before it is drawn into.
-fn used_scratch() -> [u8; MOST_SCRATCH] {
-    [9u8; MOST_SCRATCH]
-}
 
 // Draws, and shows what came of it.
 fn draw_in(font: &[u8], control: &[u8], t: &[u8], scratch: &mut [u8], out: &mut [u8]) {
-    show_answer(wattleslate::draw(font, control, t, scratch, out));
-    show_output(out);
-    show_scratch(scratch);
+    let answer = wattleslate::draw(font, control, t, scratch, out);
+    lent::show_drawing(answer, scratch, out);
 }
 
 // Draws in areas of some size.

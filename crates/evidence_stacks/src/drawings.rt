@@ -1,25 +1,19 @@
 // What is printed about a drawing by a pack, and by a font beside it: the answer, all of the output, and whether the scratch is all zeros.
-use asking::areas::MOST_ROOM;
-use asking::areas::show_output;
-use asking::areas::show_scratch;
-use asking::areas::used_output;
 use asking::behind;
+use asking::lent::MOST_ROOM;
+use asking::lent::MOST_SCRATCH;
+use asking::lent::show_drawing;
+use asking::lent::used_output;
+use asking::lent::used_scratch;
 use asking::load;
 use asking::past_byte;
-use asking::printing::counted;
-use asking::printing::named;
-use asking::printing::refused;
 use asking::row_of;
 use asking::word_of;
 use ground::limits;
 use subchars::Direction;
 use subchars::Layout;
 use subchars::Smushing;
-use wattleslate::DrawAnswer;
 ghost use Prim.Native.Nat.{_≤_};
-
-// The array of which a scratch is lent.
-const MOST_SCRATCH: usize = 32001;
 
 // How a text is drawn by a pack.
 struct Manner {
@@ -35,28 +29,6 @@ fn layout_of(word: &[u8]) -> Layout {
         return Layout::Smushing(Smushing::Controlled(rules));
     }
     Layout::from_full(n)
-}
-
-// A scratch that holds something before it is drawn into.
-fn used_scratch() -> [u8; MOST_SCRATCH] {
-    [9u8; MOST_SCRATCH]
-}
-
-fn show_answer(answer: DrawAnswer) {
-    match answer {
-        DrawAnswer::Drawn { width, counts } => {
-            named(b"width ", width);
-            counted(counts.stood_in, counts.nothing_drawn);
-        }
-        DrawAnswer::Refused(r) => refused(r.number, r.place),
-    }
-}
-
-// What came of a drawing.
-fn show_drawing(answer: DrawAnswer, scratch: &[u8], out: &mut [u8]) {
-    show_answer(answer);
-    show_output(out);
-    show_scratch(scratch);
 }
 
 fn by_pack_in(

@@ -1,10 +1,10 @@
 // What is printed about a stack: the answer, and all of the area.
-use asking::areas::MOST_ROOM;
-use asking::areas::show_output;
-use asking::areas::used_output;
 use asking::behind;
 use asking::first_block;
 use asking::hardblank_of;
+use asking::lent::MOST_ROOM;
+use asking::lent::show_output;
+use asking::lent::used_output;
 use asking::past_byte;
 use asking::printing::named;
 use asking::printing::refused;

@@ -1,11 +1,11 @@
 // What is printed about two texts drawn one above the other: the answer, all of the output, and whether the scratch is all zeros.
 use crate::stacks::show_numbers;
-use asking::areas::MOST_ROOM;
-use asking::areas::show_output;
-use asking::areas::show_scratch;
-use asking::areas::used_output;
 use asking::behind;
 use asking::first_block;
+use asking::lent::MOST_ROOM;
+use asking::lent::show_output;
+use asking::lent::show_scratch;
+use asking::lent::used_output;
 use asking::load;
 use asking::past_byte;
 use asking::printing::counted;

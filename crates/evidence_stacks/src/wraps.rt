@@ -1,10 +1,12 @@
 // What is printed about a text in lines: the answer, where each line starts and ends, all of the output, and whether what is left of the lists and the scratch
 // are all zeros.
-use asking::areas::MOST_ROOM;
-use asking::areas::show_output;
-use asking::areas::show_scratch;
-use asking::areas::used_output;
 use asking::behind;
+use asking::lent::MOST_ROOM;
+use asking::lent::MOST_SCRATCH;
+use asking::lent::show_output;
+use asking::lent::show_scratch;
+use asking::lent::used_output;
+use asking::lent::used_scratch;
 use asking::load;
 use asking::past_byte;
 use asking::printing::counted;
@@ -16,16 +18,10 @@ use asking::word_of;
 use wattleslate::WrapAnswer;
 ghost use Prim.Native.Nat.{_≤_};
 
-// The arrays of which a scratch and the lists are lent.
-const MOST_SCRATCH: usize = 32001;
-
+// The array of which a list is lent.
 const MOST_LINES: usize = 1025;
 
-// A scratch that holds something before it is drawn into, and a list of that kind.
-fn used_scratch() -> [u8; MOST_SCRATCH] {
-    [9u8; MOST_SCRATCH]
-}
-
+// A list that holds something before it is written to.
 fn used_list() -> [usize; MOST_LINES] {
     [9usize; MOST_LINES]
 }

@@ -57,6 +57,7 @@ fn draw_held(
             mode,
             height,
             pack,
+            pack,
             Origin::Pack,
             &firsts,
             starts,

@@ -50,7 +50,7 @@ module _ (z : ℤ) (es : List Entry) where
   codes = map codeOf es
 
   -- the last entry of a code has it
-  last-same : (e : Entry) → lastOf z es ≡ Used e → (k : ℕ) × (entryAt es k ≡ Used e) × (sameNumber (e .code .0) z ≡ true)
+  pub last-same : (e : Entry) → lastOf z es ≡ Used e → (k : ℕ) × (entryAt es k ≡ Used e) × (sameNumber (e .code .0) z ≡ true)
   unfolding lastOf
   last-same e p = go (lastAt z codes) refl p
     where

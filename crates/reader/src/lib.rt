@@ -17,7 +17,8 @@ ghost use Rattle.chars.specs.declared.Entry.{Entry};
 ghost use Rattle.index.specs.Index.{CharacterRoom, Lists};
 ghost use Rattle.index.specs.Latest.{Latest};
 ghost use Rattle.font.specs.Font.{format, reading};
-ghost use Rattle.reader.specs.Reader.{ReadInto, Behind, FoundBelow, atFound, used};
+ghost use Rattle.reader.specs.declared.Use.the-variants.{Used};
+ghost use Rattle.reader.specs.Reader.{ReadInto, Behind, FoundBelow, atFound, used, lookedUp};
 
 // What reading a font answers: its header, with the layout, and how many characters it has; or a refusal.
 pub enum FontAnswer {
@@ -136,4 +137,25 @@ pub fn find_known(
 {
     let found = latest::look_up(&codes[..count], places, code);
     entry_at(codes, starts, widths, count, found)
+}
+
+// Which of three an entry is that is used for a code: the code's own if it has that code, and otherwise the one that stands in.
+pub fn which_of(entry: Entry, code: Code) -> LookedUp
+    ensures { λ r. ⌜ ((es : List Entry) → used code es ≡ Used entry → r ≡ lookedUp code es) ⌝ }
+{
+    let own = entry.code;
+    if chars::same_code(own, code) {
+        return LookedUp::Found(entry);
+    }
+    LookedUp::StoodIn(entry)
+}
+
+// The same of what is used for a code, which may be nothing.
+pub fn which_used(it: Use, code: Code) -> LookedUp
+    ensures { λ r. ⌜ ((es : List Entry) → used code es ≡ it → r ≡ lookedUp code es) ⌝ }
+{
+    match it {
+        Use::Used(entry) => which_of(entry, code),
+        Use::Nothing => LookedUp::Nothing,
+    }
 }

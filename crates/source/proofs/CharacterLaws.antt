@@ -1,6 +1,6 @@
 -- The character that a font has for a code: its rows are parts of the font, and what was chosen is what the font has.
 -- Assumes nothing.
-use mathlib.Core.Path.{_≡_, refl, sym, ap, _∙_}
+use mathlib.Core.Path.{_≡_, refl, sym, ap, _∙_, subst}
 use mathlib.Core.Bool.{Bool, true, false}
 use Prim.Native.Nat.{ℕ, _+_, _≤_, _<_}
 use mathlib.Core.List.{List}
@@ -20,20 +20,35 @@ use Rattle.index.specs.Index.{CharacterRoom, Lists}
 use Rattle.index.specs.Latest.{Latest}
 use Rattle.reader.specs.declared.Use.{Use}
 use Rattle.reader.specs.declared.Use.the-variants.{Used, Nothing}
-use Rattle.reader.specs.Reader.{used, lookedUp}
+use Rattle.reader.specs.Reader.{entryAt, used, lookedUp}
+use Rattle.reader.proofs.UseLaws.{used-at}
 use Rattle.reader.proofs.ThreeLaws.{own-found, other-stood-in, unused-nothing, used-zero}
-use Rattle.request.proofs.RowLaws.{RowStands, used-stands}
+use Rattle.request.proofs.RowLaws.{RowStands, row-stands}
 use Rattle.lines.specs.Lines.{lineEnd, after}
 use Rattle.heads.proofs.FindLaws.{some, low}
 use Rattle.source.specs.declared.Origin.{Origin}
-use Rattle.source.specs.declared.Origin.the-variants.{Font, Pack}
+use Rattle.source.specs.declared.Origin.the-variants.{Font, Two, Pack}
 use Rattle.source.specs.declared.Chosen.{Chosen}
 use Rattle.source.specs.declared.Chosen.the-variants as chosen
-use Rattle.source.specs.Source.{Source, characterOf, choiceOf, fontSource}
+use Rattle.source.specs.Source.{nothing, Source, characterOf, choiceOf, fontSource}
 use Rattle.source.specs.Counting.{StandsIn}
 use Rattle.source.specs.Held.{FontHeld, FontGives, GivesBy, Gives}
-use Rattle.source.specs.Steps.{Standing, RowPlaces, Shows, ChosenAs}
+use Rattle.source.specs.Steps.{RowPlaces, Stands, Shows, ChosenAs, asOwn}
 use Rattle.source.proofs.CountLaws.{with-code-0, without-code-0}
+
+-- A character that stands in a font is shown by the places of its rows.
+module _ (s : List ℕ) (e : Entry) (h : ℕ) (so : Stands s e h) (at : List ℕ) (p : RowPlaces s (e .start) h at) where
+  shows : Shows s at (e .width) h (characterOf s e)
+  shows =
+      record {
+        narrow = so .narrow;
+        rows = record { many = p .many; within = λ r l. omega (arith, so .rows .fits r l, p .at r l) };
+        like = record { width = refl; cells = λ r k l m. ap (λ (q : ℕ). getD s (q + k) 0) (p .at r l) };
+      }
+
+  pub shown-as : (own : Bool) → ChosenAs s at h (chosen.Character (e .width) own) (asOwn own (characterOf s e))
+  shown-as true = shows
+  shown-as false = shows
 
 -- "Height 1 to 32."
 module _ (s : List ℕ) (h : Header) (count : ℕ) (codes : List ℤ) (starts widths places : List ℕ) (held : FontHeld s h count codes starts widths places) where
@@ -43,35 +58,31 @@ module _ (s : List ℕ) (h : Header) (count : ℕ) (codes : List ℤ) (starts wi
   some-rows : 0 < h .height
   some-rows = font-read s h (held .characters) (held .said) .high .0
 
-  module _ (c : Code) (e : Entry) (u : Used e ≡ used c (held .characters)) where
-    stands : (r : ℕ) → r < h .height → RowStands (format h) s (e .width) (after r s (e .start))
-    stands r l = used-stands s h (held .characters) (held .said) e c (sym u) r l
+  pub entry-stands : (e : Entry) (k : ℕ) → entryAt (held .characters) k ≡ Used e → Stands s e (h .height)
+  entry-stands e k p =
+      let f = font-read s h (held .characters) (held .said) in
+      record {
+        some = some-rows;
+        few = few-rows;
+        narrow = omega (arith, stands 0 some-rows .fits, f .short);
+        rows = record { ends = λ r l. stands r l .ends; fits = λ r l. stands r l .fits };
+        marked = λ r l. stands r l .marked;
+      }
+    where
+      stands : (r : ℕ) → r < h .height → RowStands (format h) s (e .width) (after r s (e .start))
+      stands r l = row-stands s h (held .characters) (held .said) e k p r l
 
-    font-standing : Standing s (e .start) (e .width) (h .height)
-    font-standing = record { ends = λ r l. stands r l .ends; fits = λ r l. stands r l .fits }
-
-    font-marked : (r : ℕ) → r < h .height → after r s (e .start) + e .width < lineEnd s (after r s (e .start))
-    font-marked r l = stands r l .marked
-
-    font-shows : (at : List ℕ) → RowPlaces s (e .start) (h .height) at → Shows s at (e .width) (h .height) (characterOf s e)
-    font-shows at p =
-        record {
-          narrow = let f = font-read s h (held .characters) (held .said) in omega (arith, stands 0 (f .high .0) .fits, f .short);
-          rows = record { many = p .many; within = λ r l. omega (arith, stands r l .fits, p .at r l) };
-          like = record { width = refl; cells = λ r k l m. ap (λ (q : ℕ). getD s (q + k) 0) (p .at r l) };
-        }
-
-    font-chosen : (at : List ℕ) → RowPlaces s (e .start) (h .height) at → ChosenAs s at (h .height) (chosen.Character (e .width) (sameCode (e .code) c)) (fontSource s (held .characters) c)
-    unfolding fontSource
-    font-chosen at p = go (sameCode (e .code) c) refl
-      where
-        go : (b : Bool) → sameCode (e .code) c ≡ b → ChosenAs s at (h .height) (chosen.Character (e .width) b) (choiceOf s (lookedUp c (held .characters)))
-        go true q = rw (own-found c (held .characters) e (sym u) q) (font-shows at p)
-        go false q = rw (other-stood-in c (held .characters) e (sym u) q) (font-shows at p)
-
-  font-nothing : (c : Code) → Nothing ≡ used c (held .characters) → (at : List ℕ) → ChosenAs s at (h .height) chosen.Nothing (fontSource s (held .characters) c)
+  font-choice : (c : Code) (e : Entry) → Used e ≡ used c (held .characters) → asOwn (sameCode (e .code) c) (characterOf s e) ≡ fontSource s (held .characters) c
   unfolding fontSource
-  font-nothing c u at = rw (unused-nothing c (held .characters) (sym u)) tt
+  font-choice c e u = go (sameCode (e .code) c) refl
+    where
+      go : (b : Bool) → sameCode (e .code) c ≡ b → asOwn b (characterOf s e) ≡ choiceOf s (lookedUp c (held .characters))
+      go true q = sym (ap (choiceOf s) (own-found c (held .characters) e (sym u) q))
+      go false q = sym (ap (choiceOf s) (other-stood-in c (held .characters) e (sym u) q))
+
+  font-nothing : (c : Code) → Nothing ≡ used c (held .characters) → nothing ≡ fontSource s (held .characters) c
+  unfolding fontSource
+  font-nothing c u = sym (ap (choiceOf s) (unused-nothing c (held .characters) (sym u)))
 
 -- The same of a source that a font gives.
 module _ (source : Source) (s : List ℕ) (height count : ℕ) (codes : List ℤ) (starts widths places : List ℕ) (g : FontGives source s height count codes starts widths places) where
@@ -89,17 +100,16 @@ module _ (source : Source) (s : List ℕ) (height count : ℕ) (codes : List ℤ
   its c x looked = looked (g .held .characters) (g .held .count) (g .held .lists)
 
   module _ (c : Code) (x : Entry) (looked : Looked c (Used x)) where
-    pub given-standing : Standing s (x .start) (x .width) height
-    given-standing = rw (g .high) (font-standing s (g .header) count codes starts widths places (g .held) c x (its c (Used x) looked))
+    pub given-stands : Stands s x height
+    given-stands =
+        let k = used-at c (g .held .characters) x (sym (its c (Used x) looked)) in
+        rw (g .high) (entry-stands s (g .header) count codes starts widths places (g .held) x (k .0) (k .1))
 
-    pub given-marked : (r : ℕ) → r < height → after r s (x .start) + x .width < lineEnd s (after r s (x .start))
-    given-marked = rw (g .high) (font-marked s (g .header) count codes starts widths places (g .held) c x (its c (Used x) looked))
-
-    pub given-chosen : (at : List ℕ) → RowPlaces s (x .start) height at → ChosenAs s at height (chosen.Character (x .width) (sameCode (x .code) c)) (source c)
-    given-chosen at p = rw (g .high, g .is) (font-chosen s (g .header) count codes starts widths places (g .held) c x (its c (Used x) looked) at (rw (g .high) at p))
+    pub given-choice : asOwn (sameCode (x .code) c) (characterOf s x) ≡ source c
+    given-choice = rw (g .is) (font-choice s (g .header) count codes starts widths places (g .held) c x (its c (Used x) looked))
 
   pub given-nothing : (c : Code) → Looked c Nothing → (at : List ℕ) → ChosenAs s at height chosen.Nothing (source c)
-  given-nothing c looked at = rw (g .high, g .is) (font-nothing s (g .header) count codes starts widths places (g .held) c (its c Nothing looked) at)
+  given-nothing c looked at = rw (g .is, sym (font-nothing s (g .header) count codes starts widths places (g .held) c (its c Nothing looked))) tt
 
   -- one that has a code 0 leaves nothing out, and one that has none stands in for nothing
   pub given-stands-in : (x : Entry) → Looked (code (pos 0)) (Used x) → StandsIn true source
@@ -109,13 +119,18 @@ module _ (source : Source) (s : List ℕ) (height count : ℕ) (codes : List ℤ
   given-leaves-out looked cs = rw (g .is) (without-code-0 s (g .held .characters) (sym (its (code (pos 0)) Nothing looked ∙ used-zero (g .held .characters))) cs)
 
 -- Every source that is given has 1 to 32 rows.
-high-by : (source : Source) (s : List ℕ) (height : ℕ) (origin : Origin) (codes : List ℤ) (starts widths places : List ℕ) → GivesBy source s height origin codes starts widths places → (0 < height) × (height ≤ maxHeight)
-high-by source s height (Font n) codes starts widths places g = font-high source s height n codes starts widths places g
-high-by source s height Pack codes starts widths places g = rw (g .high) (some s (g .head) (g .records) (g .said), low s (g .head) (g .records) (g .said))
+high-by : (source : Source) (s t : List ℕ) (height : ℕ) (origin : Origin) (codes : List ℤ) (starts widths places : List ℕ) → GivesBy source s t height origin codes starts widths places → (0 < height) × (height ≤ maxHeight)
+high-by source s t height (Font n) codes starts widths places g = font-high source s height n codes starts widths places g
+high-by source s t height (Two n m) codes starts widths places g = rw (g .high) (some-rows s (g .header) n _ _ _ _ (g .held .first), few-rows s (g .header) n _ _ _ _ (g .held .first))
+high-by source s t height Pack codes starts widths places g = rw (g .high) (some s (g .head) (g .records) (g .said), low s (g .head) (g .records) (g .said))
 
-pub given-high : (source : Source) (s : List ℕ) (height : ℕ) (origin : Origin) (codes : List ℤ) (starts widths places : List ℕ) → Gives source s height origin codes starts widths places → (0 < height) × (height ≤ maxHeight)
-given-high source s height origin codes starts widths places g = high-by source s height origin codes starts widths places (g .by)
+pub given-high : (source : Source) (s t : List ℕ) (height : ℕ) (origin : Origin) (codes : List ℤ) (starts widths places : List ℕ) → Gives source s t height origin codes starts widths places → (0 < height) × (height ≤ maxHeight)
+given-high source s t height origin codes starts widths places g = high-by source s t height origin codes starts widths places (g .by)
 
--- A font that was read gives its characters.
-pub font-gives : (s : List ℕ) (h : Header) (n : ℕ) (codes : List ℤ) (starts widths places : List ℕ) (held : FontHeld s h n codes starts widths places) → Gives (fontSource s (held .characters)) s (h .height) (Font n) codes starts widths places
-font-gives s h n codes starts widths places held = record { by = record { header = h; held = held; high = refl; is = refl } }
+-- What is given where the origin is known.
+pub given-by : (source : Source) (s t : List ℕ) (height : ℕ) (origin known : Origin) (codes : List ℤ) (starts widths places : List ℕ) → origin ≡ known → Gives source s t height origin codes starts widths places → GivesBy source s t height known codes starts widths places
+given-by source s t height origin known codes starts widths places e g = subst (λ (o : Origin). GivesBy source s t height o codes starts widths places) e (g .by)
+
+-- A font that was read gives its characters, whatever stands where a second font's bytes would.
+pub font-gives : (s t : List ℕ) (h : Header) (n : ℕ) (codes : List ℤ) (starts widths places : List ℕ) (held : FontHeld s h n codes starts widths places) → Gives (fontSource s (held .characters)) s t (h .height) (Font n) codes starts widths places
+font-gives s t h n codes starts widths places held = record { by = record { header = h; held = held; high = refl; is = refl } }

@@ -4,3 +4,4 @@ pub mod CountLaws
 pub mod CharacterLaws
 pub mod PackLaws
 pub mod HeldLaws
+pub mod TwoLaws

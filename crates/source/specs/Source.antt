@@ -1,4 +1,4 @@
--- Where the characters of a drawing come from: for each code, which character it is, by a font or by a pack.
+-- Where the characters of a drawing come from: for each code, which character it is, by a font, by two or by a pack.
 -- Assumes nothing.
 use Prim.Native.Nat.{ℕ, _+_}
 use mathlib.Core.Bool.{cond}
@@ -15,6 +15,9 @@ use Rattle.reader.specs.Reader.{lookedUp}
 use Rattle.records.specs.declared.Head.{Head}
 use Rattle.records.specs.Codes.{bitsOf, isCode}
 use Rattle.records.specs.Letters.{Letter, letter, noLetter, letterIn}
+use Rattle.source.specs.declared.two.LookedUpInTwo.{LookedUpInTwo}
+use Rattle.source.specs.declared.two.LookedUpInTwo.the-variants as two
+use Rattle.source.specs.TwoFonts.{bytesIn, lookedUpInTwo}
 
 -- A code's own character, with its width and rows; the one that stands in for it; or nothing.
 pub data Choice : Type 0 where
@@ -37,6 +40,15 @@ choiceOf s Nothing = nothing
 
 unfoldable pub fontSource : List ℕ → List Entry → Source
 fontSource s es c = choiceOf s (lookedUp c es)
+
+-- 02, Q-7: the same of two fonts. The first one's bytes are s and its characters es, the second one's t and fs.
+abbrev pub choiceOfTwo : List ℕ → List ℕ → LookedUpInTwo → Choice
+choiceOfTwo s t (two.Found w e) = found (characterOf (bytesIn w s t) e)
+choiceOfTwo s t (two.StoodIn w e) = stoodIn (characterOf (bytesIn w s t) e)
+choiceOfTwo s t two.Nothing = nothing
+
+unfoldable pub twoSource : List ℕ → List ℕ → List Entry → List Entry → Source
+twoSource s t es fs c = choiceOfTwo s t (lookedUpInTwo c es fs)
 
 -- The letter that a pack's records have for a code: 02, Q-6, "the code in four bytes".
 unfoldable pub packLetter : Head → List (List ℕ) → ℤ → Letter

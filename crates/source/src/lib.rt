@@ -1,12 +1,15 @@
-// Where the characters of a drawing come from, a font or a pack that was read into lists, and the character that it has for a code.
+// Where the characters of a drawing come from, a font, two fonts or a pack that were read into lists, and the character that they have for a code.
 pub mod packs;
+pub mod two;
 
+use chars::Entry;
 use index::latest;
 use lines::Cursor;
 use lines::LineStep;
 use reader::FontAnswer;
 use reader::Use;
 use subchars::Code;
+use two::Which;
 ghost use mathlib.Core.Path.{_≡_};
 ghost use mathlib.Core.Bool.{true};
 ghost use mathlib.Core.List.{List};
@@ -17,14 +20,15 @@ ghost use Rattle.lines.specs.Lines.{lineEnd, nextStart, after};
 ghost use Rattle.subchars.specs.declared.Code.{Code};
 ghost use Rattle.index.specs.Index.{CharacterRoom};
 ghost use Rattle.index.specs.Latest.{smallCodes};
-ghost use Rattle.source.specs.Source.{Choice, Source};
+ghost use Rattle.source.specs.Source.{Choice, Source, characterOf};
 ghost use Rattle.source.specs.Counting.{isMissing, one, howMany, countsOf, StandsIn};
 ghost use Rattle.source.specs.Held.{FontHeldBy, FontGives, Gives};
-ghost use Rattle.source.specs.Steps.{Standing, RowPlaces, ChosenAs};
+ghost use Rattle.source.specs.Steps.{Standing, RowPlaces, Stands, ChosenAs, PickedAs, asOwn};
 
-// What the bytes of a source are: a font, of which the lists hold so many characters, or a pack.
+// What the bytes of a source are: a font, of which the lists hold so many characters; two fonts, each in its half of the lists; or a pack.
 pub enum Origin {
     Font { count: usize },
+    Two { first: usize, second: usize },
     Pack,
 }
 
@@ -32,6 +36,12 @@ pub enum Origin {
 pub enum Chosen {
     Character { width: usize, own: bool },
     Nothing,
+}
+
+// What is drawn for a code, and in the bytes of which of two fonts its rows stand: of the first where there is but one, or a pack.
+pub struct Picked {
+    pub chosen: Chosen,
+    pub font: Which,
 }
 
 // How many codes of a text were stood in, and how many drew nothing.
@@ -78,6 +88,7 @@ fn font_stands_in(
 // Whether a source has a character with code 0.
 fn stands_in(
     font: &[u8],
+    second: &[u8],
     height: usize,
     origin: Origin,
     codes: &[i32],
@@ -85,13 +96,17 @@ fn stands_in(
     widths: &[usize],
     places: &[usize],
 ) -> bool
-    requires { ⌜ ((source : Source) × Gives source (now font) height origin (now codes) (now starts) (now widths) (now places)) ⌝ }
-    ensures { λ r. ⌜ ((source : Source) → Gives source (now (font .entry)) height origin (now (codes .entry)) (now (starts .entry)) (now (widths .entry)) (now (places .entry)) → StandsIn r source) ⌝ }
+    requires { ⌜ ((source : Source) × Gives source (now font) (now second) height origin (now codes) (now starts) (now widths) (now places)) ⌝ }
+    ensures { λ r. ⌜ ((source : Source) → Gives source (now (font .entry)) (now (second .entry)) height origin (now (codes .entry)) (now (starts .entry)) (now (widths .entry)) (now (places .entry)) → StandsIn r source) ⌝ }
 {
     match origin {
         Origin::Font { count } => {
             font_stands_in(font, height, count, codes, starts, widths, places)
         }
+        Origin::Two {
+            first,
+            second: other,
+        } => { two::stands_in(first, other, codes, starts, widths, places) }
         Origin::Pack => packs::stands_in(font, height, starts, widths),
     }
 }
@@ -100,6 +115,7 @@ fn stands_in(
 pub fn counts_of(
     missing: usize,
     font: &[u8],
+    second: &[u8],
     height: usize,
     origin: Origin,
     codes: &[i32],
@@ -107,10 +123,10 @@ pub fn counts_of(
     widths: &[usize],
     places: &[usize],
 ) -> Counts
-    requires { ⌜ ((source : Source) × Gives source (now font) height origin (now codes) (now starts) (now widths) (now places)) ⌝ }
-    ensures { λ r. ⌜ ((source : Source) → Gives source (now (font .entry)) height origin (now (codes .entry)) (now (starts .entry)) (now (widths .entry)) (now (places .entry)) → (text : List Code) → missing ≡ howMany isMissing source text → r ≡ countsOf source text) ⌝ }
+    requires { ⌜ ((source : Source) × Gives source (now font) (now second) height origin (now codes) (now starts) (now widths) (now places)) ⌝ }
+    ensures { λ r. ⌜ ((source : Source) → Gives source (now (font .entry)) (now (second .entry)) height origin (now (codes .entry)) (now (starts .entry)) (now (widths .entry)) (now (places .entry)) → (text : List Code) → missing ≡ howMany isMissing source text → r ≡ countsOf source text) ⌝ }
 {
-    if stands_in(font, height, origin, codes, starts, widths, places) {
+    if stands_in(font, second, height, origin, codes, starts, widths, places) {
         return Counts {
             stood_in: missing,
             nothing_drawn: 0,
@@ -169,6 +185,18 @@ fn find_rows(font: &[u8], start: usize, width: usize, h: usize, rows: &mut [usiz
     }
 }
 
+// The character of an entry, which is the code's own or stands in; where its rows start is written into a lent list.
+fn show_entry(entry: Entry, own: bool, font: &[u8], height: usize, found: &mut [usize]) -> Chosen
+    requires { ⌜ Stands (now font) entry height ⌝ }
+    requires { ⌜ maxHeight ≤ length (now found) ⌝ }
+    ensures { λ r. ⌜ ChosenAs (now (font .entry)) (now (found .exit)) height r (asOwn own (characterOf (now (font .entry)) entry)) ⌝ }
+{
+    let start = entry.start;
+    let width = entry.width;
+    find_rows(font, start, width, height, found);
+    Chosen::Character { width, own }
+}
+
 // The character that a font has for a code; where its rows start is written into a lent list.
 fn choose_entry(
     code: Code,
@@ -190,6 +218,7 @@ fn choose_entry(
             let start = entry.start;
             let width = entry.width;
             let own = chars::same_code(entry.code, code);
+            // As in `show_entry`, but in place: the loop that draws by one font is then laid out best.
             find_rows(font, start, width, height, found);
             Chosen::Character { width, own }
         }
@@ -197,10 +226,21 @@ fn choose_entry(
     }
 }
 
+// What was chosen in the only font, or in a pack.
+fn in_first(chosen: Chosen) -> Picked
+    ensures { λ r. ⌜ ((s t starts : List ℕ) (h : ℕ) (x : Choice) → ChosenAs s starts h chosen x → PickedAs s t starts h r x) ⌝ }
+{
+    Picked {
+        chosen,
+        font: Which::First,
+    }
+}
+
 // The character that is drawn for a code, of the given height; where its rows start is written into a lent list.
-pub fn choose(
+pub fn choose<'a>(
     code: Code,
-    font: &[u8],
+    font: &'a [u8],
+    second: &'a [u8],
     height: usize,
     origin: Origin,
     codes: &[i32],
@@ -208,24 +248,46 @@ pub fn choose(
     widths: &[usize],
     places: &[usize],
     found: &mut [usize],
-) -> Chosen
-    requires { ⌜ ((source : Source) × Gives source (now font) height origin (now codes) (now starts) (now widths) (now places)) ⌝ }
+) -> Picked
+    requires { ⌜ ((source : Source) × Gives source (now font) (now second) height origin (now codes) (now starts) (now widths) (now places)) ⌝ }
     requires { ⌜ maxHeight ≤ length (now found) ⌝ }
-    ensures { λ r. ⌜ ((source : Source) → Gives source (now (font .entry)) height origin (now (codes .entry)) (now (starts .entry)) (now (widths .entry)) (now (places .entry)) → ChosenAs (now (font .entry)) (now (found .exit)) height r (source code)) ⌝ }
+    ensures { λ r. ⌜ ((source : Source) → Gives source (now (font .entry)) (now (second .entry)) height origin (now (codes .entry)) (now (starts .entry)) (now (widths .entry)) (now (places .entry)) → PickedAs (now (font .entry)) (now (second .entry)) (now (found .exit)) height r (source code)) ⌝ }
 {
     match origin {
-        Origin::Font { count } => choose_entry(
+        Origin::Font { count } => {
+            let chosen = choose_entry(
+                code,
+                font,
+                height,
+                count,
+                codes,
+                starts,
+                widths,
+                places,
+                found,
+            );
+            in_first(chosen)
+        }
+        Origin::Two {
+            first,
+            second: other,
+        } => two::choose(
             code,
             font,
+            second,
             height,
-            count,
+            first,
+            other,
             codes,
             starts,
             widths,
             places,
             found,
         ),
-        Origin::Pack => packs::choose_letter(code, font, height, starts, widths, found),
+        Origin::Pack => {
+            let chosen = packs::choose_letter(code, font, height, starts, widths, found);
+            in_first(chosen)
+        }
     }
 }
 

@@ -1,5 +1,4 @@
 -- The laws of two lines.
-pub mod HalfLaws
 pub mod OutputLaws
 pub mod LinesLaws
 pub mod Answers

@@ -150,10 +150,10 @@ fn join_both(
     lasts: &[i32],
     news: &[i32],
 ) -> DrawnTexts
-    requires { ⌜ ((source : Source) × Gives source (now font) height origin (now codes) (now starts) (now widths) (now places)) ⌝ }
+    requires { ⌜ ((source : Source) × Gives source (now font) (now font) height origin (now codes) (now starts) (now widths) (now places)) ⌝ }
     requires { ⌜ ((control : List ℕ) × ControlHeld control commands (now stages) (now firsts) (now lasts) (now news)) ⌝ }
     requires { ⌜ minStackedScratch ≤ length (now scratch) ⌝ }
-    ensures { λ d. ⌜ ((source : Source) (given : Gives source (now (font .entry)) height origin (now (codes .entry)) (now (starts .entry)) (now (widths .entry)) (now (places .entry))) (control : List ℕ) (held : ControlHeld control commands (now (stages .entry)) (now (firsts .entry)) (now (lasts .entry)) (now (news .entry))) → BothDrawn mode height source (textCodes (held .commands) (held .count) (now (upper .entry))) (textCodes (held .commands) (held .count) (now (lower .entry))) d (now (scratch .exit))) ⌝ }
+    ensures { λ d. ⌜ ((source : Source) (given : Gives source (now (font .entry)) (now (font .entry)) height origin (now (codes .entry)) (now (starts .entry)) (now (widths .entry)) (now (places .entry))) (control : List ℕ) (held : ControlHeld control commands (now (stages .entry)) (now (firsts .entry)) (now (lasts .entry)) (now (news .entry))) → BothDrawn mode height source (textCodes (held .commands) (held .count) (now (upper .entry))) (textCodes (held .commands) (held .count) (now (lower .entry))) d (now (scratch .exit))) ⌝ }
 {
     let half = limits::MIN_SCRATCH;
     let most = limits::MAX_LINE_WIDTH;
@@ -163,6 +163,7 @@ fn join_both(
         most,
         mode,
         height,
+        font,
         font,
         origin,
         codes,
@@ -181,6 +182,7 @@ fn join_both(
         most,
         mode,
         height,
+        font,
         font,
         origin,
         codes,
@@ -210,14 +212,24 @@ fn count_both(
     widths: &[usize],
     places: &[usize],
 ) -> Counts
-    requires { ⌜ ((source : Source) × Gives source (now font) height origin (now codes) (now starts) (now widths) (now places)) ⌝ }
+    requires { ⌜ ((source : Source) × Gives source (now font) (now font) height origin (now codes) (now starts) (now widths) (now places)) ⌝ }
     requires { ⌜ (drawn .upper .missing ≤ maxText) × (drawn .lower .missing ≤ maxText) ⌝ }
-    ensures { λ n. ⌜ ((source : Source) → Gives source (now (font .entry)) height origin (now (codes .entry)) (now (starts .entry)) (now (widths .entry)) (now (places .entry)) → (mode : Mode) (us ls : List Code) (scratch : List ℕ) → BothDrawn mode height source us ls drawn scratch → BothCounted source us ls drawn n) ⌝ }
+    ensures { λ n. ⌜ ((source : Source) → Gives source (now (font .entry)) (now (font .entry)) height origin (now (codes .entry)) (now (starts .entry)) (now (widths .entry)) (now (places .entry)) → (mode : Mode) (us ls : List Code) (scratch : List ℕ) → BothDrawn mode height source us ls drawn scratch → BothCounted source us ls drawn n) ⌝ }
 {
     let a = drawn.upper;
     let b = drawn.lower;
     let missing = a.missing + b.missing;
-    source::counts_of(missing, font, height, origin, codes, starts, widths, places)
+    source::counts_of(
+        missing,
+        font,
+        font,
+        height,
+        origin,
+        codes,
+        starts,
+        widths,
+        places,
+    )
 }
 
 // Draws two texts by a font and a control file that were read: 15 and 16 of either, then 9.

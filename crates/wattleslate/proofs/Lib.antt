@@ -2,6 +2,7 @@
 pub mod Examples
 pub mod LookUpLaws
 pub mod RowLaws
+pub mod RowOfTwoLaws
 pub mod MapCases
 pub mod DrawCases
 pub mod DrawLaws

@@ -17,7 +17,7 @@ use borrow.Author.Tests.{eq-eqb, ne-eqb}
 use Rattle.ground.specs.Area.{zeros, padded}
 use Rattle.ground.specs.Text.{byte, bytes, among}
 use Rattle.ground.specs.Limits.{maxFontLength, maxControlFile, maxText, maxLineWidth, maxHeight, maxStackHeight, maxCharacters, maxCommands, minLines, minScratch, minStackedScratch, maxCharacterWidth, maxRules, maxStages, maxPackLength, minPackLength}
-use Rattle.ground.specs.Refusals.{refusal, fontTooLong, noSignature, badHardblank, badParameters, tooManyCharacters, areaTooSmall, controlFileTooLong, notACommand, badRanges, extendedCommand, tooManyCommands, textTooLong, lineTooWide, badShape, stackTooHigh, characterTooWide, missingLine, badRow, badCodeTag, damagedPack, codePresent, codeAbsent, noRoom}
+use Rattle.ground.specs.Refusals.{refusal, fontTooLong, noSignature, badHardblank, badParameters, tooManyCharacters, areaTooSmall, controlFileTooLong, notACommand, badRanges, extendedCommand, tooManyCommands, textTooLong, lineTooWide, badShape, stackTooHigh, characterTooWide, missingLine, badRow, badCodeTag, damagedPack, codePresent, codeAbsent, noRoom, fontsDiffer}
 use Rattle.ground.specs.Runs.{run, all, begins}
 use Rattle.ground.specs.declared.refusals.Refusal.{Refusal}
 use Rattle.ground.proofs.Tests.{clash}
@@ -180,6 +180,26 @@ use Rattle.pack.proofs.TableLaws as pack-rows
 use Rattle.packdrawing.specs.PackDrawing.{packMode, packLined, MadeOf}
 use Rattle.packdrawing.proofs.Answers as pack-drawing
 use Rattle.packdrawing.proofs.FontAndPack as font-pack
+use Rattle.source.specs.declared.two.Which.{Which}
+use Rattle.source.specs.declared.two.Which.the-variants as which-is
+use Rattle.source.specs.declared.two.LookedUpInTwo.the-variants as in-two
+use Rattle.source.specs.TwoFonts.{lookedUpInTwo, bytesIn}
+use Rattle.reader.specs.declared.Use.the-variants as use-is
+use Rattle.reader.specs.Reader.{lastOf}
+use Rattle.source.specs.Source.{twoSource}
+use Rattle.drawing.specs.Drawing.{modeOf}
+use Rattle.request.specs.Request.{rowRequest}
+use Rattle.twofonts.specs.declared.RequestedOfTwo.{RequestedOfTwo}
+use Rattle.twofonts.specs.declared.RequestedOfTwo.the-variants as two-row-is
+use Rattle.twofonts.specs.Fonts.{alike}
+use Rattle.twofonts.specs.RowOfTwo.{rowOfTwo}
+use Rattle.twofonts.specs.TwoDrawing.{twoLined}
+use Rattle.twofonts.proofs.RowLaws as two-rows
+use Rattle.twofonts.proofs.RowLaws.{BothSay, GivenOfTwo, NoRow}
+use Rattle.twofonts.proofs.RowAnswers as two-requests
+use Rattle.twofonts.proofs.Answers as two-drawing
+use Rattle.twofonts.proofs.TwoFontsLaws as two-fonts
+use Rattle.twofonts.proofs.TwoFontsLaws.{EachHas, inFirst}
 
 -- ================================================================ demand 1
 
@@ -1606,3 +1626,120 @@ module _ (size : ℕ) (t : List ℕ) (layout : Layout) (direction : Direction) (
   -- "A refusal fills every lent writable area with zeros"; the scratch is zeros after every answer by the call's contract.
   draw-pack-wiped : (r : Refusal) → PackDraws (draw-is.Refused r) → padded (bytesOf packDrawn room) room ≡ zeros room
   draw-pack-wiped = wiping.lined-wiped packDrawn room
+
+-- ================================================================ document 02, Q-7
+
+-- "A code missing from the first is sought in the second before any stand-in, then code 0 in the first, then in the second": each try is used exactly if none before it is there. The
+-- characters of the first font are es, those of the second fs.
+module _ (c : Code) (es fs : List Entry) where
+  code-in-the-first : (e : Entry) → lookedUpInTwo c es fs ≡ in-two.Found which-is.First e ↔ (lastOf (c .0) es ≡ use-is.Used e)
+  code-in-the-first = two-fonts.first-try c es fs
+
+  code-in-the-second : (e : Entry) → lookedUpInTwo c es fs ≡ in-two.Found which-is.Second e ↔ ((lastOf (c .0) es ≡ use-is.Nothing) × (lastOf (c .0) fs ≡ use-is.Used e))
+  code-in-the-second = two-fonts.second-try c es fs
+
+  code-0-in-the-first : (e : Entry) → lookedUpInTwo c es fs ≡ in-two.StoodIn which-is.First e ↔ ((lastOf (c .0) es ≡ use-is.Nothing) × (lastOf (c .0) fs ≡ use-is.Nothing) × (lastOf (pos 0) es ≡ use-is.Used e))
+  code-0-in-the-first = two-fonts.third-try c es fs
+
+  code-0-in-the-second : (e : Entry) →
+      lookedUpInTwo c es fs ≡ in-two.StoodIn which-is.Second e ↔ ((lastOf (c .0) es ≡ use-is.Nothing) × (lastOf (c .0) fs ≡ use-is.Nothing) × (lastOf (pos 0) es ≡ use-is.Nothing) × (lastOf (pos 0) fs ≡ use-is.Used e))
+  code-0-in-the-second = two-fonts.fourth-try c es fs
+
+  neither-font-has-any :
+      lookedUpInTwo c es fs ≡ in-two.Nothing ↔ ((lastOf (c .0) es ≡ use-is.Nothing) × (lastOf (c .0) fs ≡ use-is.Nothing) × (lastOf (pos 0) es ≡ use-is.Nothing) × (lastOf (pos 0) fs ≡ use-is.Nothing))
+  neither-font-has-any = two-fonts.no-try c es fs
+
+-- "24, heights or hardblanks differ."
+fonts-differ : (h k : Header) → alike h k ≡ false ↔ (((h .height ≡ k .height) → ⊥) ⊎ ((h .hardblank .0 ≡ k .hardblank .0) → ⊥))
+fonts-differ = two-fonts.differ-exactly
+
+-- The row request of two fonts, whose bytes are s and t: what it answers, exactly when.
+module _ (s t : List ℕ) (c : Code) (r : ℕ) where
+  font-refusals-of-row-of-two : (q : Refusal) → q .number ≤ tooManyCharacters →
+      rowOfTwo s t c r ≡ two-row-is.Refused q ↔ ((reading s ≡ refuses q) ⊎ ((h : Header) × (es : List Entry) × (reading s ≡ says h es) × (reading t ≡ refuses q)))
+  font-refusals-of-row-of-two = two-requests.row-fonts s t c r
+
+  refusal-24-of-row-of-two : (p : ℕ) →
+      rowOfTwo s t c r ≡ two-row-is.Refused (refusal fontsDiffer p) ↔
+      ((p ≡ 0) × (h : Header) × (k : Header) × (es : List Entry) × (fs : List Entry) × (reading s ≡ says h es) × (reading t ≡ says k fs) × (alike h k ≡ false))
+  refusal-24-of-row-of-two = two-requests.row-24 s t c r
+
+  -- 17: both fonts are read and alike, and the row number is at or above Height or neither font has a character or a stand-in.
+  refusal-17-of-row-of-two : (p : ℕ) → rowOfTwo s t c r ≡ two-row-is.Refused (refusal badShape p) ↔ ((p ≡ 0) × NoRow s t c r)
+  refusal-17-of-row-of-two = two-requests.row-17 s t c r
+
+  -- "The row handed back is a part of whichever font had it": of the character that the look-up came to, in that font, and within its bytes.
+  row-of-whichever-font : (w : Which) (p n : ℕ) → rowOfTwo s t c r ≡ two-row-is.Row w p n ↔ GivenOfTwo s t c r w p n
+  row-of-whichever-font = two-requests.row-given s t c r
+
+  row-within-its-font : (w : Which) (p n : ℕ) → rowOfTwo s t c r ≡ two-row-is.Row w p n → p + n ≤ length (bytesIn w s t)
+  row-within-its-font = two-rows.row-fits s t c r
+
+-- A drawing by two fonts: what it answers, exactly when. "Layout and direction are the first font's", whose header is h.
+module _ (size : ℕ) (s t control text : List ℕ) (room : ℕ) where
+  abbrev twoDrawn : Lined
+  twoDrawn = twoLined size s t control text
+
+  abbrev TwoDraws : DrawAnswer → Type 0
+  TwoDraws a = linedAnswer twoDrawn room ≡ a
+
+  abbrev TwoFilesSay : Header → List Entry → List Entry → List Command → ℕ → Type 0
+  TwoFilesSay h es fs cs k = (minScratch ≤ size) × BothSay s t h es fs × (flc.control control ≡ flc.reads cs k)
+
+  abbrev twoLineFor : Header → List Entry → List Entry → List Command → ℕ → Block
+  twoLineFor h es fs cs k = lineOf (modeOf h) (h .height) (twoSource s t es fs) (textCodes cs k text)
+
+  font-refusals-of-draw-two : (r : Refusal) → r .number ≤ tooManyCharacters →
+      TwoDraws (draw-is.Refused r) ↔ ((minScratch ≤ size) × ((reading s ≡ refuses r) ⊎ ((h : Header) × (es : List Entry) × (reading s ≡ says h es) × (reading t ≡ refuses r))))
+  font-refusals-of-draw-two = two-drawing.row-fonts size s t control text room
+
+  refusal-24-of-draw-two : (p : ℕ) →
+      TwoDraws (draw-is.Refused (refusal fontsDiffer p)) ↔
+      ((p ≡ 0) × (minScratch ≤ size) × (h : Header) × (k : Header) × (es : List Entry) × (fs : List Entry) × (reading s ≡ says h es) × (reading t ≡ says k fs) × (alike h k ≡ false))
+  refusal-24-of-draw-two = two-drawing.row-24 size s t control text room
+
+  control-refusals-of-draw-two : (r : Refusal) → controlFileTooLong ≤ r .number → r .number ≤ tooManyCommands →
+      TwoDraws (draw-is.Refused r) ↔ ((minScratch ≤ size) × (h : Header) × (es : List Entry) × (fs : List Entry) × BothSay s t h es fs × (flc.control control ≡ flc.refuses r))
+  control-refusals-of-draw-two = two-drawing.row-control size s t control text room
+
+  refusal-15-of-draw-two : (p : ℕ) →
+      TwoDraws (draw-is.Refused (refusal textTooLong p)) ↔
+      ((p ≡ 0) × (h : Header) × (es : List Entry) × (fs : List Entry) × (cs : List Command) × (k : ℕ) × (TwoFilesSay h es fs cs k) × (maxText < length text))
+  refusal-15-of-draw-two = two-drawing.row-15 size s t control text room
+
+  refusal-16-of-draw-two : (p : ℕ) →
+      TwoDraws (draw-is.Refused (refusal lineTooWide p)) ↔
+      ((p ≡ 0) × (h : Header) × (es : List Entry) × (fs : List Entry) × (cs : List Command) × (k : ℕ) × (TwoFilesSay h es fs cs k) × (length text ≤ maxText) × (maxLineWidth < twoLineFor h es fs cs k .width))
+  refusal-16-of-draw-two = two-drawing.row-16 size s t control text room
+
+  -- 9: the scratch, or else, behind all others, the output, Height rows of the width and an LF each.
+  refusal-9-of-draw-two : (p : ℕ) →
+      TwoDraws (draw-is.Refused (refusal areaTooSmall p)) ↔
+      ((p ≡ 0) ×
+      ((size < minScratch) ⊎
+      ((h : Header) × (es : List Entry) × (fs : List Entry) × (cs : List Command) × (k : ℕ) × (TwoFilesSay h es fs cs k) ×
+      (length text ≤ maxText) × (twoLineFor h es fs cs k .width ≤ maxLineWidth) × (room < h .height * (twoLineFor h es fs cs k .width + 1)))))
+  refusal-9-of-draw-two = two-drawing.row-9 size s t control text room
+
+  -- Otherwise the width, and the counts of Q-2 by this look-up.
+  draw-two-otherwise : (w : ℕ) (n : Counts) →
+      TwoDraws (draw-is.Drawn w n) ↔
+      ((h : Header) × (es : List Entry) × (fs : List Entry) × (cs : List Command) × (k : ℕ) × (TwoFilesSay h es fs cs k) × (length text ≤ maxText) × (twoLineFor h es fs cs k .width ≤ maxLineWidth) ×
+      (h .height * (twoLineFor h es fs cs k .width + 1) ≤ room) × (w ≡ twoLineFor h es fs cs k .width) × (n ≡ countsOf (twoSource s t es fs) (textCodes cs k text)))
+  draw-two-otherwise = two-drawing.row-drawn size s t control text room
+
+  -- "A refusal fills every lent writable area with zeros"; the scratch is zeros after every answer by the call's contract.
+  draw-two-wiped : (r : Refusal) → TwoDraws (draw-is.Refused r) → padded (bytesOf twoDrawn room) room ≡ zeros room
+  draw-two-wiped = wiping.lined-wiped twoDrawn room
+
+-- With the same font twice every answer is that font's: each row, told to stand in the first of the two, and each drawing.
+same-font-twice-row : (s : List ℕ) (c : Code) (r : ℕ) → rowOfTwo s s c r ≡ inFirst (rowRequest s c r)
+same-font-twice-row = two-fonts.twice-row
+
+same-font-twice : (size : ℕ) (s control text : List ℕ) → twoLined size s s control text ≡ drawLined size s control text
+same-font-twice = two-fonts.twice-draws
+
+-- A text whose codes the first font has is drawn as by the first alone, whatever legal second font stands behind.
+first-font-alone : (size : ℕ) (s t : List ℕ) (h : Header) (es fs : List Entry) → BothSay s t h es fs → (control text : List ℕ) (cs : List Command) (k : ℕ) → flc.control control ≡ flc.reads cs k →
+    EachHas es (textCodes cs k text) → twoLined size s t control text ≡ drawLined size s control text
+first-font-alone = two-fonts.covered-draws

@@ -21,6 +21,7 @@ pub use reader::LookedUp;
 use request::Requested;
 use request::Sought;
 pub use source::Counts;
+pub use source::two::Which;
 pub use stack::StackAnswer;
 pub use subchars::Code;
 pub use subchars::Direction;
@@ -30,6 +31,7 @@ pub use subchars::Smushing;
 pub use subchars::SubCharacter;
 pub use subchars::VerticalLayout;
 pub use subchars::VerticalSmushing;
+pub use twofonts::RequestedOfTwo;
 pub use twolines::LinesAnswer;
 pub use wrapping::WrapAnswer;
 ghost use mathlib.Core.Path.{_≡_};
@@ -45,13 +47,13 @@ ghost use Rattle.heads.specs.Pack.{meaning};
 ghost use Rattle.pack.specs.Calls.{checkTold, locatedIn, findTold, rowsTold, LiesIn, removal, insertion, compaction, Changes};
 ghost use Rattle.drawing.specs.Drawing.{PutOut};
 ghost use Rattle.packdrawing.specs.PackDrawing.{packLined};
-ghost use Rattle.chars.specs.declared.Entry.{Entry};
-ghost use Rattle.reader.specs.declared.Use.the-variants.{Used};
-ghost use Rattle.reader.specs.Reader.{used, lookedUp};
+ghost use Rattle.twofonts.specs.RowOfTwo.{rowOfTwo};
+ghost use Rattle.twofonts.specs.TwoDrawing.{twoLined};
 ghost use Rattle.request.specs.Request.{rowRequest};
 ghost use Rattle.flc.specs.Lists.{commandLists};
 ghost use Rattle.wattleslate.specs.LookUpCall.{lookUpTells, lookUpTold};
 ghost use Rattle.wattleslate.specs.RowCall.{rowTells, rowTold, rowBytes, LiesAt};
+ghost use Rattle.wattleslate.specs.RowOfTwoCall.{rowOfTwoBytes, LiesInOne};
 ghost use Rattle.wattleslate.specs.ControlCall.{ControlRead};
 ghost use Rattle.wattleslate.specs.MapCall.{mapTells, mapTold};
 ghost use Rattle.wattleslate.specs.DrawCall.{drawTells, drawTold, drawOutput};
@@ -74,23 +76,12 @@ pub enum MapAnswer {
     Refused(Refusal),
 }
 
-// Which of three an entry is that is used for a code: the code's own if it has that code, and otherwise the one that stands in.
-fn which_of(entry: Entry, code: Code) -> LookedUp
-    ensures { λ r. ⌜ ((es : List Entry) → used code es ≡ Used entry → r ≡ lookedUp code es) ⌝ }
-{
-    let own = entry.code;
-    if chars::same_code(own, code) {
-        return LookedUp::Found(entry);
-    }
-    LookedUp::StoodIn(entry)
-}
-
 // Looks a code up in a font: the last character that has it is found, or else the last with code 0 stands in. The font's refusals.
 pub fn look_up(font: &[u8], code: Code) -> LookUpAnswer
     ensures answer { λ r. ⌜ lookUpTells r ≡ lookUpTold (now (font .entry)) code ⌝ }
 {
     match request::seek(font, code) {
-        Sought::Found { height: _, entry } => LookUpAnswer::Looked(which_of(entry, code)),
+        Sought::Found { height: _, entry } => LookUpAnswer::Looked(reader::which_of(entry, code)),
         Sought::NoDrawing => LookUpAnswer::Looked(LookedUp::Nothing),
         Sought::Unread(r) => LookUpAnswer::Refused(r),
     }
@@ -323,4 +314,50 @@ pub fn draw_pack(
     ensures scratch { λ r. ⌜ now (scratch .exit) ≡ zeros (length (now (scratch .entry))) ⌝ }
 {
     packdrawing::draw_pack(pack, layout, direction, control, text, scratch, out)
+}
+
+// A row of the character that two fonts have for a code, as a part of whichever font has it: the code in the first, in the second, code 0 in the first, then in
+// the second. A refused row is empty.
+pub fn row_of_two<'a>(first: &'a [u8], second: &'a [u8], code: Code, row: usize) -> &'a [u8]
+    ensures part { λ r. ⌜ now r ≡ rowOfTwoBytes (now (first .entry)) (now (second .entry)) code row ⌝ }
+    ensures place { λ r. ⌜ LiesInOne (first .entry) (second .entry) (rowOfTwo (now (first .entry)) (now (second .entry)) code row) r ⌝ }
+{
+    match twofonts::request(first, second, code, row) {
+        RequestedOfTwo::Row { font, place, width } => {
+            let end = place + width;
+            match font {
+                Which::First => &first[place..end],
+                Which::Second => &second[place..end],
+            }
+        }
+        RequestedOfTwo::Refused(_) => &first[0..0],
+    }
+}
+
+// The refusal of the same row request: the first font's, the second's, 24, then 17; or in which font the row stands, where it starts there and how wide it is.
+pub fn row_of_two_refusal<'a>(
+    first: &'a [u8],
+    second: &'a [u8],
+    code: Code,
+    row: usize,
+) -> RequestedOfTwo
+    ensures answer { λ r. ⌜ r ≡ rowOfTwo (now (first .entry)) (now (second .entry)) code row ⌝ }
+{
+    twofonts::request(first, second, code, row)
+}
+
+// Draws a line of text by two fonts of equal height and hardblank and by a control file, as `draw` does by one font; layout and direction are the first font's.
+// Refusals: 9 for the scratch, the first font's (1 to 8), the second's, 24, the control file's (10 to 14), 15, 16, then 9 for `out`; they leave `out` all zeros.
+pub fn draw_two<'a>(
+    first: &'a [u8],
+    second: &'a [u8],
+    control: &[u8],
+    text: &[u8],
+    scratch: &mut [u8],
+    out: &mut [u8],
+) -> DrawAnswer
+    ensures line { λ r. ⌜ PutOut (twoLined (length (now (scratch .entry))) (now (first .entry)) (now (second .entry)) (now (control .entry)) (now (text .entry))) (length (now (out .entry))) r (now (out .exit)) ⌝ }
+    ensures scratch { λ r. ⌜ now (scratch .exit) ≡ zeros (length (now (scratch .entry))) ⌝ }
+{
+    twofonts::draw_two(first, second, control, text, scratch, out)
 }

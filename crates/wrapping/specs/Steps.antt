@@ -31,7 +31,7 @@ use Rattle.wrapping.specs.Wrapping.{part, wideIn, firstWider}
 -- The bytes and the lists by which texts are drawn: they give the characters of a source and hold the commands of a control file.
 pub record DrawsBy (d : Drawer) (font : List ℕ) (codes : List ℤ) (starts widths places stages : List ℕ) (firsts lasts news : List ℤ) : Type 0 where
   pub source : Source
-  pub given : Gives source font (d .height) (Font (d .count)) codes starts widths places
+  pub given : Gives source font font (d .height) (Font (d .count)) codes starts widths places
   pub control : List ℕ
   pub held : ControlHeld control (d .commands) stages firsts lasts news
 

@@ -129,8 +129,9 @@ fn measure(
     let mut missing: usize = 0;
     let mut i: usize = 0;
     while i < text.len() {
-        let chosen = drawing::choose_byte(
+        let picked = drawing::choose_byte(
             text[i],
+            font,
             font,
             drawer.height,
             Origin::Font {
@@ -147,6 +148,7 @@ fn measure(
             news,
             &mut found,
         );
+        let chosen = picked.chosen;
         if too_wide(drawer.limit, text[i], chosen) {
             return Measured { place: i, missing };
         }
@@ -310,8 +312,9 @@ fn seek_end(
     let mut kept = nothing_kept(b);
     let mut i = b;
     while i < stop {
-        let chosen = drawing::choose_byte(
+        let picked = drawing::choose_byte(
             text[i],
+            font,
             font,
             height,
             Origin::Font {
@@ -328,6 +331,7 @@ fn seek_end(
             news,
             &mut found,
         );
+        let chosen = picked.chosen;
         let w = drawing::draw_chosen(area, chosen, &found, &rows, n, limit, mode, height, font);
         if limit < w {
             return line_sought(b, last, i, n, kept);
@@ -382,6 +386,7 @@ fn finish_span(
         drawer.limit,
         mode,
         drawer.height,
+        font,
         font,
         Origin::Font {
             count: drawer.count,
@@ -621,6 +626,7 @@ fn wrap_lines(
     );
     let counts = source::counts_of(
         missing,
+        font,
         font,
         drawer.height,
         Origin::Font {

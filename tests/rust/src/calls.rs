@@ -1,5 +1,5 @@
 //! The calls of the static library, in safe functions. They ask nothing of their input, so nothing is tested here.
-use crate::plain::{join, pack, stack, wrap};
+use crate::plain::{join, pack, stack, two, wrap};
 
 extern "C" {
     fn wattleslate_check_font(font: *const u8, font_len: usize) -> u64;
@@ -85,6 +85,20 @@ extern "C" {
         pack_len: usize,
         layout: usize,
         direction: usize,
+        control: *const u8,
+        control_len: usize,
+        text: *const u8,
+        text_len: usize,
+        scratch: *mut u8,
+        scratch_len: usize,
+        out: *mut u8,
+        out_len: usize,
+    ) -> u64;
+    fn wattleslate_draw_two(
+        first: *const u8,
+        first_len: usize,
+        second: *const u8,
+        second_len: usize,
         control: *const u8,
         control_len: usize,
         text: *const u8,
@@ -259,6 +273,26 @@ pub fn draw_pack(r: &pack::Request, scratch: &mut [u8], out: &mut [u8]) -> u64 {
             r.pack.len(),
             r.layout,
             r.direction,
+            r.control.as_ptr(),
+            r.control.len(),
+            r.text.as_ptr(),
+            r.text.len(),
+            scratch.as_mut_ptr(),
+            scratch.len(),
+            out.as_mut_ptr(),
+            out.len(),
+        )
+    }
+}
+
+pub fn draw_two(r: &two::Request, scratch: &mut [u8], out: &mut [u8]) -> u64 {
+    // SAFETY: as above; what is only read may be the same slice twice.
+    unsafe {
+        wattleslate_draw_two(
+            r.first.as_ptr(),
+            r.first.len(),
+            r.second.as_ptr(),
+            r.second.len(),
             r.control.as_ptr(),
             r.control.len(),
             r.text.as_ptr(),

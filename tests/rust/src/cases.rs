@@ -260,5 +260,6 @@ pub fn run() -> (u64, u64) {
     check.rows();
     check.wrapped();
     check.packs();
+    check.two_fonts();
     (check.made, check.wrong)
 }

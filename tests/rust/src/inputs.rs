@@ -177,15 +177,15 @@ fn optional(r: &mut Random, most: usize) -> i64 {
 }
 
 /// The numbers of a font, and what it is drawn with.
-struct Sizes {
-    hardblank: u8,
-    marks: &'static [u8],
-    height: usize,
-    max_length: usize,
-    comments: usize,
+pub struct Sizes {
+    pub hardblank: u8,
+    pub marks: &'static [u8],
+    pub height: usize,
+    pub max_length: usize,
+    pub comments: usize,
     /// Blanks and tabs behind the marks of some rows.
-    gaps: bool,
-    wild: bool,
+    pub gaps: bool,
+    pub wild: bool,
 }
 
 fn header(r: &mut Random, s: &Sizes) -> Vec<u8> {
@@ -277,7 +277,7 @@ fn tag(r: &mut Random, wild: bool) -> Vec<u8> {
 }
 
 /// A font's numbers, and what it is drawn with.
-fn sizes(r: &mut Random, wild: bool) -> Sizes {
+pub fn sizes(r: &mut Random, wild: bool) -> Sizes {
     let marks = if r.one_in(4) { r.pick(FEW) } else { MARKS };
     let hardblank = match wild {
         true => hardblank(r),
@@ -296,25 +296,32 @@ fn sizes(r: &mut Random, wild: bool) -> Sizes {
     }
 }
 
-/// A font: mostly small, sometimes high, wide or with many characters; `wild` ones are mostly refused.
-pub fn font(r: &mut Random) -> Vec<u8> {
-    let wild = r.one_in(3);
-    let s = sizes(r, wild);
+/// The lines of a font: header, comments, the required characters, and so many behind them, each with a tag.
+pub fn lines(r: &mut Random, s: &Sizes, many: impl Fn(&mut Random) -> usize, tag: impl Fn(&mut Random) -> Vec<u8>) -> Vec<u8> {
     let end = r.pick(ENDS);
-    let mut font = header(r, &s);
+    let mut font = header(r, s);
     font.extend(end);
     for _ in 0..s.comments {
         font.extend(r.pick(&[&b"a comment"[..], b"", b" "]));
         font.extend(end);
     }
-    let tags = if r.one_in(40) { r.between(405, 413) } else { r.below(5) * r.below(2) };
+    let tags = many(r);
     for k in 0..102 + tags {
         if k >= 102 {
-            font.extend(tag(r, wild));
+            font.extend(tag(r));
             font.extend(end);
         }
-        character(r, &s, end, &mut font);
+        character(r, s, end, &mut font);
     }
+    font
+}
+
+/// A font: mostly small, sometimes high, wide or with many characters; `wild` ones are mostly refused.
+pub fn font(r: &mut Random) -> Vec<u8> {
+    let wild = r.one_in(3);
+    let s = sizes(r, wild);
+    let many = |r: &mut Random| if r.one_in(40) { r.between(405, 413) } else { r.below(5) * r.below(2) };
+    let mut font = lines(r, &s, many, |r| tag(r, wild));
     if wild && r.one_in(2) {
         damage(r, &mut font);
     }

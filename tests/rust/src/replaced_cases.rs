@@ -6,12 +6,12 @@ use crate::plain;
 
 /// What stands behind the font of the program banner, which has codes 32 to 126 and the seven German ones and no code 0.
 const NO_ZERO: &str = "";
-const ZERO: &str = "0\n?@@\n";
+pub const ZERO: &str = "0\n?@@\n";
 
 /// What stands behind the font, control file, text, how many drew nothing, how many were stood in, output.
-type Case = (&'static str, &'static str, &'static [u8], u16, u16, &'static str);
+pub type Case = (&'static str, &'static str, &'static [u8], u16, u16, &'static str);
 
-const DRAWINGS: &[Case] = &[
+pub const DRAWINGS: &[Case] = &[
     // "A typographic dash came out as the stand-in": three bytes of UTF-8.
     (ZERO, "", "sw–11".as_bytes(), 0, 3, "sw???11\n"),
     (NO_ZERO, "", "sw–11".as_bytes(), 3, 0, "sw11\n"),
@@ -54,7 +54,7 @@ const DRAWINGS: &[Case] = &[
 ];
 
 /// "The counts .. do not depend on the layout": header, text, output; with code 0, which stands in twice.
-const LAYOUTS: &[(&str, &[u8], &str)] = &[
+pub const LAYOUTS: &[(&str, &[u8], &str)] = &[
     ("flf2a$ 1 1 4 -1 0", b"a\x01\x02", "a??\n"),
     ("flf2a$ 1 1 4 0 0", b"a\x01\x02", "a??\n"),
     ("flf2a$ 1 1 4 1 0", b"a\x01\x02", "a?\n"),

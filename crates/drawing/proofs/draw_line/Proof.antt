@@ -23,7 +23,7 @@ draw-from-requires : tie.Need-draw-from-requires
 draw-from-requires c κs =
     let p = c .before .before .before .before .before .before .before .before .before .before .before .before .before .before .pre in
     let h = held-as _ _ _ _ _ _ _ _ _ _ _ _ (c .before .before .before .before .files .given .1) (p .0 .1) in
-    ((_, font-gives _ _ _ _ _ _ _ (h .0)), ((p .0 .0, h .1), p .1))
+    ((_, font-gives _ _ _ _ _ _ _ _ (h .0)), ((p .0 .0, h .1), p .1))
 
 enum-known-files-2 : tie.Need-enum-known-files-2
 enum-known-files-2 c = search needs
@@ -47,7 +47,7 @@ returns c =
     let source = fontSource (a .font .now) (h .0 .characters) in
     subst (λ (l : Lined). PutOut l (length (a .out .now)) (d .result) (d .last .0)) (sym (font-lined (a .font .now) control (a .text .now) y (h .0 .characters) (h .0 .said)))
     (subst (λ (m : Mode). PutOut (linedFrom m (y .height) source (flc.control control) (a .text .now)) (length (a .out .now)) (d .result) (d .last .0)) (c .before .before .before .before .before .mode-of .ensures)
-    (d .ensures source (font-gives _ _ _ _ _ _ _ (h .0)) control (h .1)))
+    (d .ensures source (font-gives _ _ _ _ _ _ _ _ (h .0)) control (h .1)))
 
 same-length-3 : tie.Need-same-length-3
 same-length-3 c = search needs

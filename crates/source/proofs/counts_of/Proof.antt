@@ -8,7 +8,7 @@ use Rattle.source.proofs.counts_of.Statement.{statement}
 use Rattle.source.proofs.counts_of.Tie as tie
 
 stands-in-requires : tie.Need-stands-in-requires
-stands-in-requires c κs = c .before .before .before .before .pre
+stands-in-requires c κs = c .before .before .before .before .before .pre
 
 returns : tie.Need-returns
 returns c = λ source g text e. all-stood-in source _ text e (subst (λ (b : Bool). StandsIn b source) (c .if1 .taken) (c .before .stands-in .ensures source g) text)

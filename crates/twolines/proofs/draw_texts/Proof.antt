@@ -50,14 +50,14 @@ join-both-requires : tie.Need-join-both-requires
 join-both-requires c κs =
     let s = c .before .before .before .before .before .before .before .before .before .before .before .before .before in
     let p = s .pre in
-    ((fontSource (s .args .font .now) (p .0 .characters), font-gives _ _ _ _ _ _ _ (p .0)), (p .1 .0, p .1 .1))
+    ((fontSource (s .args .font .now) (p .0 .characters), font-gives _ _ _ _ _ _ _ _ (p .0)), (p .1 .0, p .1 .1))
 
 count-both-requires : tie.Need-count-both-requires
 count-both-requires c κs =
     let s = c .before .before .before .before .before .before .before .before .before .before .before .before .before .before .before .before in
     let a = s .args in
     let f = s .pre .0 in
-    let given = font-gives _ _ _ _ _ _ _ f in
+    let given = font-gives (s .args .font .now) (s .args .font .now) _ _ _ _ _ _ f in
     let held = s .pre .1 .0 .1 in
     let drawn = c .before .before .join-both .ensures (fontSource (a .font .now) (f .characters)) given (s .pre .1 .0 .0) held in (
       (fontSource (a .font .now) (f .characters), given),
@@ -71,7 +71,7 @@ put-lines-requires : tie.Need-put-lines-requires
 put-lines-requires c κs =
     let s = c .before .before .before .before .before .before .before .before .before .before .before .before .before .before .before .before .before .before .before .before in
     let f = s .pre .0 in
-    let high = given-high (fontSource (s .args .font .now) (f .characters)) _ _ _ _ _ _ _ (font-gives _ _ _ _ _ _ _ f) in
+    let high = given-high (fontSource (s .args .font .now) (f .characters)) _ _ _ _ _ _ _ _ (font-gives (s .args .font .now) (s .args .font .now) _ _ _ _ _ _ f) in
     (high .0, high .1, omega (arith, s .pre .1 .1, c .before .before .before .before .before .before .join-both .kept .0))
 
 same-length-3 : tie.Need-same-length-3
@@ -88,7 +88,7 @@ returns-3 c =
     let h = a .header .height in
     λ control held.
     let source = fontSource (a .font .now) (f .characters) in
-    let given = font-gives _ _ _ _ _ _ _ f in
+    let given = font-gives (s .args .font .now) (s .args .font .now) _ _ _ _ _ _ f in
     let us = textCodes (held .commands) (held .count) (a .upper .now) in
     let ls = textCodes (held .commands) (held .count) (a .lower .now) in
     let drawn = c .before .before .before .before .before .before .before .before .before .join-both .ensures source given control held in

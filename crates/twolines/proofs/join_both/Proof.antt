@@ -10,7 +10,7 @@ use borrow.Author.Needs.{needs}
 use Rattle.ground.specs.Limits.{maxLineWidth, minScratch, minStackedScratch}
 use Rattle.drawing.specs.Drawing.{textCodes}
 use Rattle.drawing.specs.Steps.{TextDrawn}
-use Rattle.twolines.proofs.HalfLaws.{second-long, first-half, second-half, same-long}
+use Rattle.ground.proofs.Halves.{second-long, first-half, second-half, same-long}
 use Rattle.twolines.proofs.join_both.Statement.{statement}
 use Rattle.twolines.proofs.join_both.Tie as tie
 

@@ -10,7 +10,7 @@ use borrow.Author.Needs.{needs}
 use Rattle.ground.specs.Limits.{maxLineWidth, minScratch}
 use Rattle.stack.specs.Placing.{PlacedIn}
 use Rattle.drawing.specs.Steps.{TextDrawn}
-use Rattle.twolines.proofs.HalfLaws.{part-behind}
+use Rattle.ground.proofs.Halves.{part-behind}
 use Rattle.twolines.proofs.OutputLaws.{placed-in, upper-wide, lower-wide, both-put}
 use Rattle.twolines.proofs.put_lines.Statement.{statement}
 use Rattle.twolines.proofs.put_lines.Tie as tie

@@ -6,6 +6,7 @@ use native.Mathlib.Omega.{arith}
 use lib.ListN.{length, length-set}
 use borrow.Author.Needs.{needs}
 use Rattle.ground.specs.Limits.{maxHeight}
+use Rattle.drawing.proofs.CharacterLaws.{picked-in-one}
 use Rattle.drawing.proofs.DrawingLaws.{as-many}
 use Rattle.drawing.proofs.TextLaws.{Counted, counted-first, counted-few, counted-next, counted-end}
 use Rattle.wrapping.specs.Steps.{DrawsBy}
@@ -51,7 +52,7 @@ returns c =
     let a = c .before .before .before .before .before .before .before .before .before .before .before .before .before .before .before .before .args in
     let l = c .before .before .before .before .before .before .before .before .loop in
     λ x.
-    let z = c .before .before .before .before .choose-byte .ensures (x .source) (x .given) (x .control) (x .held) in
+    let z = picked-in-one _ _ _ _ _ (c .before .before .before .before .choose-byte .ensures (x .source) (x .given) (x .control) (x .held)) in
     record {
       place = passed-stop (x .source) (x .held .commands) (x .held .count) (a .drawer .limit) (a .text .now) (l .i) (l .inv .2 x .0) (c .before .before .before .before .before .before .before .loop-test .taken) _ (c .before .too-wide .ensures _ _ _ _ z) (c .if1 .taken);
       missing = λ w. absurd (omega (arith, c .before .before .before .before .before .before .before .loop-test .taken));
@@ -84,7 +85,7 @@ loop-again c =
       omega (arith, c .before .before .before .before .before .before .choose-byte .kept, l .inv .0),
       length-set (l .wide) (l .i) (c .width-of .result) ∙ l .inv .1,
       λ x.
-          let z = c .before .before .before .before .before .before .choose-byte .ensures (x .source) (x .given) (x .control) (x .held) in (
+          let z = picked-in-one _ _ _ _ _ (c .before .before .before .before .before .before .choose-byte .ensures (x .source) (x .given) (x .control) (x .held)) in (
             passed-next (x .source) (x .held .commands) (x .held .count) (a .drawer .limit) (a .text .now) (l .i) (l .inv .2 x .0) (c .before .before .before .before .before .before .before .before .before .loop-test .taken) _ (c .before .before .before .too-wide .ensures _ _ _ _ z) (c .before .before .if1 .left),
             counted-next (x .source) (x .held .commands) (x .held .count) (a .text .now) (l .missing) (l .i) (l .inv .2 x .1) (c .before .before .before .before .before .before .before .before .before .loop-test .taken) _ (c .before .count-missing .ensures _ _ _ _ z),
           ),

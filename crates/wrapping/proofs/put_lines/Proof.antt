@@ -76,7 +76,7 @@ facts c =
     let a = c .before .before .before .before .before .before .before .before .before .before .before .before .before .before .before .before .before .before .before .args in
     let p = c .before .before .before .before .before .before .before .before .before .before .before .before .before .before .before .before .before .before .before .pre in
     let f = span-facts (a .drawer .mode) (a .drawer .height) (line-of c (p .0 .0)) (a .drawer .limit) (a .text .now) _ (opened c (p .0 .0) (p .0 .1)) _ _ _ _ (spanned c (p .0 .0) (p .0 .1)) in
-    (omega (arith, f .0, c .before .before .before .word-from .ensures), f .1, omega (arith, f .2, p .1 .0 .0), given-high _ _ _ _ _ _ _ _ (p .0 .0 .given) .1)
+    (omega (arith, f .0, c .before .before .before .word-from .ensures), f .1, omega (arith, f .2, p .1 .0 .0), given-high _ _ _ _ _ _ _ _ _ (p .0 .0 .given) .1)
 
 -- There are fewer lines than the text may have bytes, and the lists have room for one more.
 few : (c : Drawn) → c .before .before .before .before .before .loop .lines < maxText

@@ -9,6 +9,7 @@ use lib.ListN.{length, take}
 use borrow.Author.Needs.{needs}
 use Rattle.ground.specs.Limits.{maxHeight}
 use Rattle.source.proofs.CharacterLaws.{given-high}
+use Rattle.drawing.proofs.CharacterLaws.{picked-in-one}
 use Rattle.wrapping.specs.Wrapping.{part, lineBy, wideIn}
 use Rattle.wrapping.specs.Steps.{DrawsBy, KeptAs}
 use Rattle.breaks.proofs.WordLaws.{behind-le}
@@ -30,7 +31,7 @@ abbrev μ-loop : tie.MeasureT-loop
     stop - i
 
 row-starts-requires : tie.Need-row-starts-requires Inv-loop μ-loop
-row-starts-requires c κs = (given-high _ _ _ _ _ _ _ _ (c .before .before .before .before .before .before .before .before .before .before .pre .0 .given) .1, omega arith)
+row-starts-requires c κs = (given-high _ _ _ _ _ _ _ _ _ (c .before .before .before .before .before .before .before .before .before .before .pre .0 .given) .1, omega arith)
 
 nothing-kept-requires : tie.Need-nothing-kept-requires Inv-loop μ-loop
 nothing-kept-requires c κs = search needs
@@ -68,7 +69,7 @@ draw-chosen-requires c κs =
     let p = c .before .before .before .before .before .before .before .before .before .before .before .before .before .before .before .before .before .before .before .before .before .pre in
     let x = p .0 in
     let l = c .before .before .before .before .before .before .before .before .loop in
-    ((_, c .before .before .before .before .choose-byte .ensures (x .source) (x .given) (x .control) (x .held)), ((l .inv .0, p .1 .0 .0, given-high _ _ _ _ _ _ _ _ (x .given) .1, omega (arith, p .1 .0 .1, l .inv .1)), c .before .before .before .before .before .before .before .before .before .before .row-starts .ensures))
+    ((_, picked-in-one _ _ _ _ _ (c .before .before .before .before .choose-byte .ensures (x .source) (x .given) (x .control) (x .held))), ((l .inv .0, p .1 .0 .0, given-high _ _ _ _ _ _ _ _ _ (x .given) .1, omega (arith, p .1 .0 .1, l .inv .1)), c .before .before .before .before .before .before .before .before .before .before .row-starts .ensures))
 
 line-sought-requires : tie.Need-line-sought-requires Inv-loop μ-loop
 line-sought-requires c κs = search needs
@@ -89,7 +90,7 @@ returns c =
         sought-between (a .text .now) (a .b) (l .i) (l .last) (l .n) (l .kept) _ (c .line-sought .ensures) (l .inv .3) (a .drawer .limit) (l .inv .0),
         λ x o.
             let line = lineBy (a .drawer .mode) (a .drawer .height) (x .source) (x .held .commands) (x .held .count) in
-            let z = c .before .before .before .before .before .before .before .before .before .choose-byte .ensures (x .source) (x .given) (x .control) (x .held) in
+            let z = picked-in-one _ _ _ _ _ (c .before .before .before .before .before .before .before .before .before .choose-byte .ensures (x .source) (x .given) (x .control) (x .held)) in
             let so = l .inv .6 x .0 in
             sought-so (a .text .now) (a .b) (l .i) (l .last) (l .n) (l .kept) _ (c .line-sought .ensures) (a .drawer .mode) (a .drawer .height) line (a .drawer .limit) (a .at) (c .before .before .before .before .draw-chosen .last .0) (l .out)
             (found-beyond (wideIn line (a .text .now)) (a .drawer .limit) (a .text .now) (part-grows (a .drawer .mode) (a .drawer .height) (x .source) (x .held .commands) (x .held .count) (a .text .now)) (a .b) o (l .i) (l .last) (l .inv .3) (omega (arith, so .width, l .inv .0)) in-text
@@ -111,7 +112,7 @@ keep-line-requires c κs =
     let l = c .before .before .before .before .before .before .before .before .before .before .before .before .before .before .before .loop in
     let stops = behind-le (c .before .before .before .before .before .before .before .before .before .before .before .before .before .before .before .before .before .before .before .before .before .before .before .before .before .before .before .before .args .text .now) in (
       (omega (arith, p .1 .1 .1, stops), omega (arith, p .1 .1 .1, stops, p .1 .0 .3), omega (arith, c .before .before .before .if1 .left), p .1 .0 .0),
-      (given-high _ _ _ _ _ _ _ _ (p .0 .given) .1, omega (arith, p .1 .0 .1, c .before .before .before .before .before .before .draw-chosen .kept, l .inv .1), omega (arith, p .1 .0 .2, l .inv .4)),
+      (given-high _ _ _ _ _ _ _ _ _ (p .0 .given) .1, omega (arith, p .1 .0 .1, c .before .before .before .before .before .before .draw-chosen .kept, l .inv .1), omega (arith, p .1 .0 .2, l .inv .4)),
     )
 
 loop-less : tie.Need-loop-less Inv-loop μ-loop
@@ -129,7 +130,7 @@ loop-again c =
       omega (arith, c .before .before .keep-line .kept .0, l .inv .4),
       c .before .before .keep-line .ensures .0 ∙ l .inv .5,
       λ x.
-          let z = c .before .before .before .before .before .before .before .before .before .before .before .before .before .before .choose-byte .ensures (x .source) (x .given) (x .control) (x .held) in
+          let z = picked-in-one _ _ _ _ _ (c .before .before .before .before .before .before .before .before .before .before .before .before .before .before .choose-byte .ensures (x .source) (x .given) (x .control) (x .held)) in
           let held = held-next (a .drawer .mode) (a .drawer .height) (x .source) (x .held .commands) (x .held .count) (a .text .now) (a .b) (a .drawer .limit) (l .area) (l .n) (l .i) (l .inv .6 x .0) (l .inv .3 .low) in-text (c .before .before .before .before .before .before .before .before .before .draw-chosen .last .0) _ (c .before .before .before .before .before .before .before .before .before .draw-chosen .ensures .0 _ z) (c .before .before .before .before .before .before .if1 .left) in
           (held, c .before .before .keep-line .ensures .1 (λ e. lineBy (a .drawer .mode) (a .drawer .height) (x .source) (x .held .commands) (x .held .count) (part (a .text .now) (a .b) e)) (a .b) held (l .inv .6 x .1)),
     )

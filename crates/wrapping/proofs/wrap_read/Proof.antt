@@ -59,7 +59,7 @@ wrap-text-requires : tie.Need-wrap-text-requires
 wrap-text-requires c κs =
     let a = c .before .before .before .before .before .before .before .before .before .before .before .before .before .before .before .before .before .before .args in
     let p = c .before .before .before .before .before .before .before .before .before .before .before .before .before .before .before .before .before .before .pre in (
-      record { source = fontSource (a .font .now) (p .0 .characters); given = font-gives _ _ _ _ _ _ _ (p .0); control = p .1 .0 .0; held = p .1 .0 .1 },
+      record { source = fontSource (a .font .now) (p .0 .characters); given = font-gives _ _ _ _ _ _ _ _ (p .0); control = p .1 .0 .0; held = p .1 .0 .1 },
       ((limit-good (a .limit) (sym (c .before .before .before .before .before .before .bad-limit .ensures) ∙ c .before .before .before .before .before .if2 .left), p .1 .1 .0, c .before .before .before .before .before .before .before .if1 .left), p .1 .1 .1),
     )
 
@@ -83,7 +83,7 @@ returns-3 c =
     out-as _ _ _ _ _ _ _ _ _
     (read-wrapped (a .font .now) control (a .limit) (a .text .now) (a .header) (f .characters) (held .commands) (held .count) (f .said) (held .said) ∙ tested-text (modeOf (a .header)) (a .header .height) (fontSource (a .font .now) (f .characters)) (held .commands) (held .count) (a .limit) (a .text .now) (c .before .before .before .before .before .before .before .before .before .before .before .before .before .before .before .before .if1 .left) (sym (c .before .before .before .before .before .before .before .before .before .before .before .before .before .before .before .bad-limit .ensures) ∙ c .before .before .before .before .before .before .before .before .before .before .before .before .before .before .if2 .left)
     ∙ ap (λ (y : Mode). wrapText y (a .header .height) (fontSource (a .font .now) (f .characters)) (held .commands) (held .count) (a .limit) (a .text .now)) (sym (c .before .before .before .before .before .before .before .before .before .before .before .before .before .mode-of .ensures)))
-    (c .before .before .before .before .before .before .before .before .wrap-text .ensures (record { source = fontSource (a .font .now) (f .characters); given = font-gives _ _ _ _ _ _ _ f; control = control; held = held }))
+    (c .before .before .before .before .before .before .before .before .wrap-text .ensures (record { source = fontSource (a .font .now) (f .characters); given = font-gives _ _ _ _ _ _ _ _ f; control = control; held = held }))
 
 pub wrap-read-spec : {M : Type 1} → statement M
 wrap-read-spec =

@@ -7,9 +7,9 @@ use wattleslate_tests::met::{self, Drawing, Met};
 use wattleslate_tests::plain::wrap::{self, Areas, Request};
 use wattleslate_tests::random::Random;
 use wattleslate_tests::wrapped::{self, Asked};
-use wattleslate_tests::{calls, cases, inputs, pack_compare, pack_met, plain, replaced, rows, stacks, wraps};
+use wattleslate_tests::{calls, cases, inputs, pack_compare, pack_met, plain, replaced, rows, stacks, two_compare, two_met, wraps};
 
-const CALLS: [(&str, &[u64]); 13] = [
+const CALLS: [(&str, &[u64]); 14] = [
     ("join", &[9, 16, 17]),
     ("check_font", &[1, 2, 3, 4, 5, 6, 7, 8]),
     ("check_control", &[10, 11, 12, 13, 14]),
@@ -23,6 +23,7 @@ const CALLS: [(&str, &[u64]); 13] = [
     ("pack_remove", &[17, 20, 22]),
     ("pack_compact", &[20]),
     ("draw_pack", &[9, 10, 11, 12, 13, 14, 15, 16, 17, 20]),
+    ("draw_two", &[1, 2, 3, 4, 5, 6, 7, 8, 9, 10, 11, 12, 13, 14, 15, 16, 24]),
 ];
 
 fn compare_join(r: &mut Random, count: &mut Count) {
@@ -159,7 +160,7 @@ fn compare_draw_wrapped(r: &mut Random, font: &[u8], control: &[u8], count: &mut
 }
 
 /// What one round compares: ten joins and stacks, a font, three control files, a line, two lines and a wrapped text drawn with the font, and packs.
-fn round(r: &mut Random, mut font: Vec<u8>, damaged: bool, counts: &mut [Count; 13], cases: &mut [Met; 8]) {
+fn round(r: &mut Random, mut font: Vec<u8>, damaged: bool, counts: &mut [Count; 14], cases: &mut [Met; 9]) {
     for _ in 0..10 {
         compare_join(r, &mut counts[0]);
         compare_stack(r, &mut counts[4], &mut cases[0]);
@@ -185,7 +186,7 @@ fn round(r: &mut Random, mut font: Vec<u8>, damaged: bool, counts: &mut [Count; 
     }
     compare_draw_stacked(r, &font, control, [&texts[0], &texts[1]], &mut counts[5], &mut cases[1]);
     compare_draw_wrapped(r, &font, control, &mut counts[6], &mut cases[4]);
-    pack_compare::round(r, &font, control, &mut counts[7..], &mut cases[5..]);
+    pack_compare::round(r, &font, control, &mut counts[7..13], &mut cases[5..8]);
 }
 
 fn main() {
@@ -199,7 +200,8 @@ fn main() {
     }
     let start = Instant::now();
     let mut r = Random::new(seed);
-    let console = std::fs::read(concat!(env!("CARGO_MANIFEST_DIR"), "/../../fonts/console.flf")).expect("fonts/console.flf");
+    let own = |name: &str| std::fs::read(format!("{}/../../fonts/{name}", env!("CARGO_MANIFEST_DIR"))).expect(name);
+    let (console, accents) = (own("console.flf"), own("accents.flf"));
     let mut counts = CALLS.map(Count::new);
     let mut cases = [
         Met::new("stacks met", met::STACKS),
@@ -210,10 +212,14 @@ fn main() {
         Met::new("packs met", pack_met::PACKS),
         Met::new("letters of packs met", pack_met::LETTERS),
         Met::new("drawings from packs met", pack_met::DRAWINGS),
+        Met::new("drawings by two fonts met", two_met::CASES),
     ];
     for k in 0..times {
         let font = if k % 8 == 0 { console.clone() } else { inputs::font(&mut r) };
         round(&mut r, font, k % 32 == 0, &mut counts, &mut cases);
+    }
+    for _ in 0..times {
+        two_compare::round(&mut r, [&console, &accents], &mut counts[13], &mut cases[8]);
     }
     let never = counts.iter().map(Count::print).sum::<usize>() + cases.iter().map(Met::print).sum::<usize>();
     println!("no difference, {:.1} s; never met: {never}", start.elapsed().as_secs_f64());

@@ -6,7 +6,7 @@ use super::pairs::Mode;
 use super::stack;
 use super::{packed, refuse, Refusal};
 
-fn block(font: &[u8], character: &Character) -> Block {
+pub fn block(font: &[u8], character: &Character) -> Block {
     let rows = character.rows.iter().map(|at| font[*at..*at + character.width].to_vec()).collect();
     Block { width: character.width, rows }
 }

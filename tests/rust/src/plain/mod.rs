@@ -9,6 +9,7 @@ pub mod numbers;
 pub mod pack;
 pub mod pairs;
 pub mod stack;
+pub mod two;
 pub mod wrap;
 
 /// "A refusal answers its number and place."
