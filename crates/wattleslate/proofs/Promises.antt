@@ -17,7 +17,7 @@ use borrow.Author.Tests.{eq-eqb, ne-eqb}
 use Rattle.ground.specs.Area.{zeros, padded}
 use Rattle.ground.specs.Text.{byte, bytes, among}
 use Rattle.ground.specs.Limits.{maxFontLength, maxControlFile, maxText, maxLineWidth, maxHeight, maxStackHeight, maxCharacters, maxCommands, minLines, minScratch, minStackedScratch, maxCharacterWidth, maxRules, maxStages, maxPackLength, minPackLength}
-use Rattle.ground.specs.Refusals.{refusal, fontTooLong, noSignature, badHardblank, badParameters, tooManyCharacters, areaTooSmall, controlFileTooLong, notACommand, badRanges, extendedCommand, tooManyCommands, textTooLong, lineTooWide, badShape, stackTooHigh, characterTooWide, missingLine, badRow, badCodeTag, damagedPack, codePresent, codeAbsent, noRoom, fontsDiffer}
+use Rattle.ground.specs.Refusals.{refusal, fontTooLong, noSignature, badHardblank, badParameters, tooManyCharacters, areaTooSmall, controlFileTooLong, notACommand, badRanges, extendedCommand, tooManyCommands, textTooLong, lineTooWide, badShape, stackTooHigh, characterTooWide, missingLine, badRow, badCodeTag, damagedPack, codePresent, codeAbsent, noRoom, fontsDiffer, wrongLength}
 use Rattle.ground.specs.Runs.{run, all, begins}
 use Rattle.ground.specs.declared.refusals.Refusal.{Refusal}
 use Rattle.ground.proofs.Tests.{clash}
@@ -200,6 +200,13 @@ use Rattle.twofonts.proofs.RowAnswers as two-requests
 use Rattle.twofonts.proofs.Answers as two-drawing
 use Rattle.twofonts.proofs.TwoFontsLaws as two-fonts
 use Rattle.twofonts.proofs.TwoFontsLaws.{EachHas, inFirst}
+use Rattle.checking.specs.declared.CheckAnswer.{CheckAnswer}
+use Rattle.checking.specs.declared.CheckAnswer.the-variants as check-is
+use Rattle.checking.proofs.DifferenceLaws.{PartsFirst}
+use Rattle.checking.proofs.VerdictLaws.{FirstWrong}
+use Rattle.drawingcheck.specs.CheckDrawing.{drawingChecked}
+use Rattle.drawingcheck.proofs.Answers as check-answers
+use Rattle.drawingcheck.proofs.Answers.{CheckRead}
 
 -- ================================================================ demand 1
 
@@ -1743,3 +1750,62 @@ same-font-twice = two-fonts.twice-draws
 first-font-alone : (size : ℕ) (s t : List ℕ) (h : Header) (es fs : List Entry) → BothSay s t h es fs → (control text : List ℕ) (cs : List Command) (k : ℕ) → flc.control control ≡ flc.reads cs k →
     EachHas es (textCodes cs k text) → twoLined size s t control text ≡ drawLined size s control text
 first-font-alone = two-fonts.covered-draws
+
+-- ================================================================ document 02, Q-8
+
+-- The check of a FIGure and a list of overlaps for a text. The line of the text, its right overlaps and its drawing are those of `draw`, where neither 9, a refusal of either file, nor 15 is
+-- given (`CheckRead`).
+module _ (size : ℕ) (s control text : List ℕ) where
+  abbrev FilesRead : Type 0
+  FilesRead = CheckRead size s control text
+
+  abbrev lineDrawn : FilesRead → Block
+  lineDrawn = check-answers.lineBy size s control text
+
+  abbrev rightOverlaps : FilesRead → List ℕ
+  rightOverlaps = check-answers.rightBy size s control text
+
+  abbrev itsDrawing : FilesRead → List ℕ
+  itsDrawing = check-answers.drawingBy size s control text
+
+  module _ (overlaps figure : List ℕ) where
+    abbrev Checks : CheckAnswer → Type 0
+    Checks a = drawingChecked size s control text overlaps figure ≡ a
+
+    -- "Accept exactly if each overlap is the one of demand 3 and the bytes are the drawing."
+    accepted-exactly-if : Checks check-is.Accepted ↔ ((x : FilesRead) × (lineDrawn x .width ≤ maxLineWidth) × (overlaps ≡ rightOverlaps x) × (figure ≡ itsDrawing x))
+    accepted-exactly-if = check-answers.accepted size s control text overlaps figure
+
+    -- "The check names the first wrong overlap, else the first wrong byte; where one FIGure is the start of the other, that is the shorter one's end."
+    first-wrong-overlap : (k : ℕ) → Checks (check-is.WrongOverlap k) ↔ ((x : FilesRead) × (lineDrawn x .width ≤ maxLineWidth) × FirstWrong k (rightOverlaps x) overlaps)
+    first-wrong-overlap = check-answers.wrong-overlap size s control text overlaps figure
+
+    first-wrong-byte : (p : ℕ) → Checks (check-is.WrongByte p) ↔ ((x : FilesRead) × (lineDrawn x .width ≤ maxLineWidth) × (overlaps ≡ rightOverlaps x) × PartsFirst p (itsDrawing x) figure)
+    first-wrong-byte = check-answers.wrong-byte size s control text overlaps figure
+
+    -- "Refusals: the drawing's, first; a list of the wrong length is 25."
+    font-refusals-of-check-drawing : (r : Refusal) → r .number ≤ tooManyCharacters → Checks (check-is.Refused r) ↔ ((minScratch ≤ size) × (reading s ≡ refuses r))
+    font-refusals-of-check-drawing = check-answers.row-font size s control text overlaps figure
+
+    refusal-9-of-check-drawing : (p : ℕ) → Checks (check-is.Refused (refusal areaTooSmall p)) ↔ ((p ≡ 0) × (size < minScratch))
+    refusal-9-of-check-drawing = check-answers.row-9 size s control text overlaps figure
+
+    control-refusals-of-check-drawing : (r : Refusal) → controlFileTooLong ≤ r .number → r .number ≤ tooManyCommands →
+        Checks (check-is.Refused r) ↔ ((minScratch ≤ size) × (h : Header) × (es : List Entry) × (reading s ≡ says h es) × (flc.control control ≡ flc.refuses r))
+    control-refusals-of-check-drawing = check-answers.row-control size s control text overlaps figure
+
+    refusal-15-of-check-drawing : (p : ℕ) →
+        Checks (check-is.Refused (refusal textTooLong p)) ↔
+        ((p ≡ 0) × (minScratch ≤ size) × (h : Header) × (es : List Entry) × (reading s ≡ says h es) × (cs : List Command) × (k : ℕ) × (flc.control control ≡ flc.reads cs k) × (maxText < length text))
+    refusal-15-of-check-drawing = check-answers.row-15 size s control text overlaps figure
+
+    refusal-16-of-check-drawing : (p : ℕ) → Checks (check-is.Refused (refusal lineTooWide p)) ↔ ((p ≡ 0) × (x : FilesRead) × (maxLineWidth < lineDrawn x .width))
+    refusal-16-of-check-drawing = check-answers.row-16 size s control text overlaps figure
+
+    refusal-25-of-check-drawing : (p : ℕ) → Checks (check-is.Refused (refusal wrongLength p)) ↔ ((p ≡ 0) × (x : FilesRead) × (lineDrawn x .width ≤ maxLineWidth) × (length overlaps ≡ length (rightOverlaps x) → ⊥))
+    refusal-25-of-check-drawing = check-answers.row-25 size s control text overlaps figure
+
+  -- What `draw` puts out, with the overlaps of its trace, is accepted.
+  own-drawing-accepted : (room w : ℕ) (n : Counts) → linedAnswer (drawLined size s control text) room ≡ draw-is.Drawn w n →
+      (x : FilesRead) × (drawingChecked size s control text (rightOverlaps x) (bytesOf (drawLined size s control text) room) ≡ check-is.Accepted)
+  own-drawing-accepted = check-answers.own-drawing size s control text
