@@ -22,7 +22,7 @@ sub-with-overlap : tie.Need-sub-with-overlap
 sub-with-overlap c =
     let p = c .before .before .before .before .pre in
     let g = subst (λ (r : Chosen). Grows r (c .before .before .before .before .args .n) (c .before .before .before .before .args .w)) (c .before .chosen .given .1) (p .2) in
-    g .0
+    omega (arith, g .0)
 
 with-overlap-requires : tie.Need-with-overlap-requires
 with-overlap-requires c κs = search needs
