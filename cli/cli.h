@@ -1,5 +1,5 @@
 /* What the parts of the command share. main.c has its words and options, files.c takes fonts and control files, two.c draws with a second font behind the first,
- * stack.c puts names below one another, wrap.c draws a text in lines, pack.c and packdraw.c have the words of pack, packfile.c writes its file, damage.c says what is wrong with one, letters.c takes letters out of a font, codes.c reads
+ * stack.c puts names below one another, wrap.c draws a text in lines, checkdrawing.c checks what another program drew and overlaps.c reads its overlaps, pack.c and packdraw.c have the words of pack, packfile.c writes its file, damage.c says what is wrong with one, letters.c takes letters out of a font, codes.c reads
  * codes, io.c reads and writes, lines.c cuts a file into lines, header.c reads the numbers of a font, refusals.c says why something was refused. */
 #ifndef CLI_H
 #define CLI_H
@@ -7,7 +7,8 @@
 #include "wattleslate.h"
 #include <stdbool.h>
 
-/* Exit statuses. Where several are due the greatest is given. REFUSED is also given, where that is asked for, for a byte that is not in the font. */
+/* Exit statuses. Where several are due the greatest is given. REFUSED is also given for a FIGure that is not the drawing, and, where that is asked for, for a byte that is
+ * not in the font. */
 enum status { GOOD = 0, REFUSED = 1, BAD_USE = 2, BAD_FILE = 3 };
 
 static inline enum status worse(enum status one, enum status other) {
@@ -16,7 +17,7 @@ static inline enum status worse(enum status one, enum status other) {
 
 /* The options. What was given for each stands in a call: the value, or the option itself where it takes none; NULL if it was not given. A second -f is an option of
  * its own here. */
-enum { FONT, SECOND_FONT, CONTROL, COLUMNS, SIZE, CODES, LAYOUT, DIRECTION, STRICT, HELP, SHOW_VERSION, OPTIONS_COUNT };
+enum { FONT, SECOND_FONT, CONTROL, OVERLAPS, COLUMNS, SIZE, CODES, LAYOUT, DIRECTION, STRICT, HELP, SHOW_VERSION, OPTIONS_COUNT };
 
 /* What the options want: 1,000 is WATTLESLATE_MAX_WIDTH, 65,536 WATTLESLATE_MAX_PACK, and 7 the head of a pack. */
 #define COLUMNS_WANTED "a number of columns from 0 to 1,000"
@@ -37,6 +38,10 @@ enum status bad_use(const char *first, const char *second, const char *third);
 
 /* Reads decimal digits: a number up to another one. What was there before stays where it is none. */
 bool number_upto(const char *digits, size_t most, size_t *value);
+bool digits_upto(const uint8_t *digits, size_t length, size_t most, size_t *value);
+
+/* The word check-drawing. */
+enum status check_drawing(const struct call *call);
 
 /* The words of pack. */
 enum status pack_new(const struct call *call);
@@ -133,6 +138,16 @@ struct drawing draw_wrapped(const struct files *files, const struct text *text, 
 enum status stack_two(const struct files *files, const struct text *upper, const struct text *lower);
 enum status stack_one_more(const struct files *files, const struct text *text);
 enum status put_stack(void);
+
+/* Overlaps that another program took, and the name of their file. */
+struct overlaps {
+    const char *name;
+    size_t count;
+    size_t list[WATTLESLATE_MAX_OVERLAPS];
+};
+
+/* Reads a list of overlaps; what is wrong with it is told. */
+enum status take_overlaps(struct overlaps *overlaps, const char *name);
 
 /* The numbers behind the hardblank of a header, in their order. */
 enum parameter { HEIGHT, BASELINE, MAX_LENGTH, OLD_LAYOUT, COMMENT_LINES, PRINT_DIRECTION, FULL_LAYOUT, CODETAG_COUNT };

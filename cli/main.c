@@ -8,7 +8,7 @@
 #define VERSION "1.0"
 
 /* The words, each a bit, so that an option can name those that it belongs to. */
-enum { DRAW = 1, STACK = 2, CHECK = 4, NEW = 8, LIST = 16, PUT = 32, REMOVE = 64, COMPACT = 128, FROM_PACK = 256, PACK = 512, EVERY_WORD = ~0 };
+enum { DRAW = 1, STACK = 2, CHECK = 4, NEW = 8, LIST = 16, PUT = 32, REMOVE = 64, COMPACT = 128, FROM_PACK = 256, PACK = 512, CHECK_DRAWING = 1024, EVERY_WORD = ~0 };
 
 static enum status draw(const struct call *call);
 static enum status stack(const struct call *call);
@@ -23,6 +23,7 @@ struct word {
     int bit;
     size_t least, most; /* operands that it takes */
     const char *wants;  /* what they are */
+    const char *last;   /* the last of them, where there may be no more */
     enum status (*run)(const struct call *call);
     const char *help;
 };
@@ -31,34 +32,37 @@ struct word {
 
 /* The first word is meant where none is given. Of two that both fit the longer one stands first. */
 static const struct word WORDS[] = {
-    {"draw", DRAW, 0, ANY_NUMBER, "nothing", draw,
+    {"draw", DRAW, 0, ANY_NUMBER, "nothing", NULL, draw,
      "  wattleslate [draw] [-f FONT [-f SECOND]] [-c CONTROL] [-w COLUMNS] [--strict] [NAME...]\n"
      "      draws each NAME, or without a NAME each line of standard input, and tells of bytes that are not in the font\n"},
-    {"stack", STACK, 0, ANY_NUMBER, "nothing", stack,
+    {"stack", STACK, 0, ANY_NUMBER, "nothing", NULL, stack,
      "  wattleslate stack [-f FONT] [-c CONTROL] [NAME...]\n"
      "      draws the NAMEs, or the lines of standard input, below one another, closed up as the font says\n"},
-    {"check", CHECK, 1, ANY_NUMBER, "a FONT or a CONTROL", check,
+    {"check", CHECK, 1, ANY_NUMBER, "a FONT or a CONTROL", NULL, check,
      "  wattleslate check FONT|CONTROL...\n"
      "      reads fonts and control files, and says what is wrong with them\n"},
-    {"pack new", NEW, 1, 1, "a PACK", pack_new,
+    {"check-drawing", CHECK_DRAWING, 2, 2, "a NAME and a FIGURE", "its FIGURE", check_drawing,
+     "  wattleslate check-drawing [-f FONT] [-c CONTROL] [-o OVERLAPS] NAME FIGURE\n"
+     "      says whether the file FIGURE, which another program drew, has the drawing of the NAME, or what is wrong first\n"},
+    {"pack new", NEW, 1, 1, "a PACK", "its PACK", pack_new,
      "  wattleslate pack new [-f FONT] [-s BYTES] PACK\n"
      "      makes an empty font pack for letters of the font\n"},
-    {"pack list", LIST, 1, 1, "a PACK", pack_list,
+    {"pack list", LIST, 1, 1, "a PACK", "its PACK", pack_list,
      "  wattleslate pack list PACK\n"
      "      says how full a pack is, and shows its letters\n"},
-    {"pack put", PUT, 1, ANY_NUMBER, "a PACK", pack_put,
+    {"pack put", PUT, 1, ANY_NUMBER, "a PACK", NULL, pack_put,
      "  wattleslate pack put [-f FONT] [-n CODES] PACK [LETTER...]\n"
      "      puts letters of the font into a pack, all of them or none\n"},
-    {"pack remove", REMOVE, 1, ANY_NUMBER, "a PACK", pack_remove,
+    {"pack remove", REMOVE, 1, ANY_NUMBER, "a PACK", NULL, pack_remove,
      "  wattleslate pack remove [-n CODES] PACK [LETTER...]\n"
      "      removes letters from a pack, all of them or none\n"},
-    {"pack compact", COMPACT, 1, 1, "a PACK", pack_compact,
+    {"pack compact", COMPACT, 1, 1, "a PACK", "its PACK", pack_compact,
      "  wattleslate pack compact PACK\n"
      "      gives the room of letters that were removed to letters of any width\n"},
-    {"pack draw", FROM_PACK, 1, ANY_NUMBER, "a PACK", pack_draw,
+    {"pack draw", FROM_PACK, 1, ANY_NUMBER, "a PACK", NULL, pack_draw,
      "  wattleslate pack draw [-f FONT] [-l LAYOUT] [-d DIRECTION] [-c CONTROL] [--strict] PACK [NAME...]\n"
      "      draws each NAME, or each line of standard input, with the letters of a pack, in one line\n"},
-    {"pack", PACK, 1, ANY_NUMBER, PACK_WORDS, pack, ""},
+    {"pack", PACK, 1, ANY_NUMBER, PACK_WORDS, NULL, pack, ""},
 };
 
 struct option {
@@ -70,10 +74,12 @@ struct option {
 };
 
 static const struct option OPTIONS[] = {
-    {"-f", "a FONT", DRAW | STACK | NEW | PUT | FROM_PACK, FONT,
+    {"-f", "a FONT", DRAW | STACK | CHECK_DRAWING | NEW | PUT | FROM_PACK, FONT,
      "  -f FONT     take this FIGfont, and not the built-in one; pack draw takes layout and direction from it.\n"
      "              draw takes a second one of the same height and hardblank for what the first lacks, and then wraps nothing\n"},
-    {"-c", "a CONTROL", DRAW | STACK | FROM_PACK, CONTROL, "  -c CONTROL  map the characters by this control file first\n"},
+    {"-c", "a CONTROL", DRAW | STACK | CHECK_DRAWING | FROM_PACK, CONTROL, "  -c CONTROL  map the characters by this control file first\n"},
+    {"-o", "a file of OVERLAPS", CHECK_DRAWING, OVERLAPS,
+     "  -o OVERLAPS check the overlaps in this file too, a number a line, one for each drawn character after the first\n"},
     {"-w", COLUMNS_WANTED, DRAW, COLUMNS,
      "  -w COLUMNS  break a text at blanks into lines of at most COLUMNS; 0 breaks none. Without it a terminal's width is taken\n"},
     {"-s", SIZE_WANTED, NEW, SIZE, "  -s BYTES    make the pack so long, 7 to 65,536 bytes; without it 65,536\n"},
@@ -92,7 +98,7 @@ static const char MORE_HELP[] =
     "\n"
     "Each byte of a NAME is one character, 128 to 255 by ISO 8859-1. A first NAME that is a word stands behind `draw`.\n"
     "A LETTER is one character or several, each of which is meant, in UTF-8: 1 is the character 1, with code 49.\n"
-    "Exit status: 0; 1 something was refused, or by --strict not in the font; 2 bad use; 3 a file cannot be read or written.\n";
+    "Exit status: 0; 1 something was refused, is not the drawing, or by --strict not in the font; 2 bad use; 3 a file cannot be read or written.\n";
 
 #define COUNT(table) (sizeof(table) / sizeof *(table))
 
@@ -168,22 +174,26 @@ enum step next_text(const struct call *call, size_t number, struct text *text) {
     return NEXT;
 }
 
-bool number_upto(const char *digits, size_t most, size_t *value) {
+bool digits_upto(const uint8_t *digits, size_t length, size_t most, size_t *value) {
     size_t number = 0;
-    for (const char *at = digits; *at != '\0'; at++) {
-        if (*at < '0' || *at > '9') {
+    for (size_t at = 0; at < length; at++) {
+        if (digits[at] < '0' || digits[at] > '9') {
             return false;
         }
-        number = number * 10 + (size_t)(*at - '0');
+        number = number * 10 + (size_t)(digits[at] - '0');
         if (number > most) {
             return false;
         }
     }
-    if (digits[0] == '\0') {
+    if (length == 0) {
         return false;
     }
     *value = number;
     return true;
+}
+
+bool number_upto(const char *digits, size_t most, size_t *value) {
+    return digits_upto((const uint8_t *)digits, strlen(digits), most, value);
 }
 
 /* The limit that -w gives, else that of the terminal. With two fonts there is none: the library does not wrap with them. */
@@ -411,6 +421,13 @@ static const struct word *word_of(char **arguments, size_t *used) {
     return &WORDS[0];
 }
 
+/* Says that there is an operand behind the last one. */
+static enum status too_many(const struct word *word, const char *operand) {
+    char what[40];
+    (void)snprintf(what, sizeof what, " takes nothing behind %s, not ", word->last);
+    return bad_use(word->name, what, operand);
+}
+
 static enum status run(char **arguments) {
     struct call call;
     size_t used;
@@ -429,7 +446,7 @@ static enum status run(char **arguments) {
         return bad_use(word->name, " wants ", word->wants);
     }
     if (call.count > word->most) {
-        return bad_use(word->name, " takes nothing behind its PACK, not ", call.operands[word->most]);
+        return too_many(word, call.operands[word->most]);
     }
     return word->run(&call);
 }

@@ -34,6 +34,7 @@ static const struct refusal REFUSALS[] = {
     [WATTLESLATE_CODE_ABSENT]         = {false, "it is not in the pack"},
     [WATTLESLATE_NO_ROOM]             = {false, "no free record has its width, and behind the last record there is too little room"},
     [WATTLESLATE_FONTS_DIFFER]        = {false, "the heights or the hardblanks of the two fonts differ"}, /* fonts_refused says which */
+    [WATTLESLATE_WRONG_LENGTH]        = {false, "the list of overlaps has not one for each drawn character after the first"},
 };
 /* clang-format on */
 

@@ -23,6 +23,7 @@
  *     wattleslate_pack_compact    0               0          0
  *     wattleslate_draw_pack       nothing drawn   stood in   width
  *     wattleslate_draw_two        nothing drawn   stood in   width
+ *     wattleslate_check_drawing   verdict         b * 2^16 + c: where
  */
 #ifndef WATTLESLATE_H
 #define WATTLESLATE_H
@@ -47,7 +48,10 @@ extern "C" {
 #define WATTLESLATE_MAX_STAGES 64u
 #define WATTLESLATE_MAX_PACK 65536u
 
-/* The scratch that drawing is lent has this many bytes or more, in one line or wrapped. */
+/* A list of overlaps has at most this many entries: one for each character but the first. */
+#define WATTLESLATE_MAX_OVERLAPS (WATTLESLATE_MAX_TEXT - 1u)
+
+/* The scratch that drawing in one line or wrapped and checking a drawing are lent has this many bytes or more. */
 #define WATTLESLATE_SCRATCH 32000u
 
 /* Each list that wrapping is lent has this many entries or more: a text has no more lines than bytes. */
@@ -104,7 +108,15 @@ enum wattleslate_refusal {
     WATTLESLATE_CODE_PRESENT = 21,
     WATTLESLATE_CODE_ABSENT = 22,
     WATTLESLATE_NO_ROOM = 23,            /* no free record of that width, and too few bytes behind the last record */
-    WATTLESLATE_FONTS_DIFFER = 24        /* the heights or the hardblanks of two fonts */
+    WATTLESLATE_FONTS_DIFFER = 24,       /* the heights or the hardblanks of two fonts */
+    WATTLESLATE_WRONG_LENGTH = 25        /* a list of overlaps has not one for each drawn character after the first */
+};
+
+/* What a check of a drawing finds. */
+enum wattleslate_verdict {
+    WATTLESLATE_ACCEPTED = 0,
+    WATTLESLATE_WRONG_OVERLAP = 1, /* where: its number in the list, counted from 0 */
+    WATTLESLATE_WRONG_BYTE = 2     /* where: its place in the FIGure, or the end of the shorter of FIGure and drawing */
 };
 
 /* Layouts of a join and of drawing from a pack, as a font's Full_Layout: one of these, or SMUSHING plus rules 1 to 63. Any number up to 32,767 means what it means there. */
@@ -210,6 +222,16 @@ uint64_t wattleslate_draw_two(const uint8_t *first, size_t first_len, const uint
                               size_t control_len, const uint8_t *text, size_t text_len, uint8_t *scratch, size_t scratch_len, uint8_t *out,
                               size_t out_len);
 
+/* Checks what another program drew of a line of text by a font and a control file, which may be empty: a FIGure, and the overlap of each drawn character after the
+ * first with the line before it. It is accepted exactly if each overlap is the one that wattleslate_draw takes and the FIGure has the bytes that it puts out, LFs
+ * included. Otherwise the first wrong overlap is told, and where all are right the first wrong byte; where the FIGure is the start of the drawing, or the drawing that
+ * of the FIGure, that is the end of the shorter one. A text byte for which nothing is drawn has no overlap, a character of width 0 has: 0. For one drawn character and for
+ * none the list is empty. `scratch` is then all zeros. Refusals: 9 for a scratch under WATTLESLATE_SCRATCH bytes, 1 to 8, 10 to 14, 15, 16, 25. Values:
+ * wattleslate_checked and wattleslate_where. */
+uint64_t wattleslate_check_drawing(const uint8_t *font, size_t font_len, const uint8_t *control, size_t control_len, const uint8_t *text,
+                                   size_t text_len, const uint8_t *figure, size_t figure_len, const size_t *overlaps, size_t overlaps_len,
+                                   uint8_t *scratch, size_t scratch_len);
+
 /* Writes an empty pack of a height, 1 to 32, and a hardblank into an area of WATTLESLATE_PACK_HEAD bytes or more. The other bytes of the pack must be zeros: they
  * are the caller's to write. */
 static inline void wattleslate_empty_pack(uint8_t *pack, uint8_t height, uint8_t hardblank) {
@@ -285,6 +307,16 @@ static inline uint32_t wattleslate_live(uint64_t answer) {
 /* Of wattleslate_pack_find, where not refused: the place in the pack where the rows of the letter begin. */
 static inline uint32_t wattleslate_rows_place(uint64_t answer) {
     return (uint32_t)(wattleslate_place(answer) >> WATTLESLATE_VALUE_BITS);
+}
+
+/* Of wattleslate_check_drawing, where not refused: what the check found. */
+static inline enum wattleslate_verdict wattleslate_checked(uint64_t answer) {
+    return (enum wattleslate_verdict)(uint16_t)(answer >> (2 * WATTLESLATE_VALUE_BITS));
+}
+
+/* Of wattleslate_check_drawing, where neither refused nor accepted: the number of the wrong overlap, or the place of the wrong byte. */
+static inline uint32_t wattleslate_where(uint64_t answer) {
+    return (uint32_t)answer;
 }
 
 /* Of wattleslate_check_control, where not refused: how many stages the control file has. */

@@ -68,6 +68,14 @@ static void packs(void) {
     }
 }
 
+/* Where has the bits of two values. */
+static void checked(uint64_t verdict, uint64_t where) {
+    uint64_t answer = verdict * 4294967296u + where;
+    same("number", wattleslate_number(answer), 0);
+    same("verdict", wattleslate_checked(answer), verdict);
+    same("where", wattleslate_where(answer), where);
+}
+
 /* "A refusal tells 0 and 0", at every place. */
 static void drawing_refused(uint64_t number, uint64_t place) {
     uint64_t answer = refused(number, place);
@@ -96,6 +104,18 @@ int main(void) {
     found(65535, 1);
     found(65536, 0);
     packs();
+    checked(WATTLESLATE_ACCEPTED, 0);
+    checked(WATTLESLATE_WRONG_OVERLAP, 0);
+    checked(WATTLESLATE_WRONG_OVERLAP, 1022);
+    checked(WATTLESLATE_WRONG_BYTE, 32032);
+    checked(WATTLESLATE_WRONG_BYTE, 65536);
+    checked(WATTLESLATE_WRONG_BYTE, 4294967295u);
+    same("accepted", WATTLESLATE_ACCEPTED, 0);
+    same("a wrong overlap", WATTLESLATE_WRONG_OVERLAP, 1);
+    same("a wrong byte", WATTLESLATE_WRONG_BYTE, 2);
+    same("the longest list", WATTLESLATE_MAX_OVERLAPS, 1023);
+    same("the number of a list of the wrong length", WATTLESLATE_WRONG_LENGTH, 25);
+    same("number", wattleslate_number(refused(25, 0)), WATTLESLATE_WRONG_LENGTH);
     drawing_refused(16, 0);
     drawing_refused(6, 28);
     drawing_refused(5, 65536);

@@ -1,4 +1,4 @@
-/* The calls on a pack and drawing with two fonts over hostile input, for tests/hostile: each input that comes from standard input is given to all seven, and each answers a line. Every area lies
+/* The calls on a pack, drawing with two fonts and checking a drawing over hostile input, for tests/hostile: each input that comes from standard input is given to all eight, and each answers a line. Every area lies
  * between two pages that nobody may touch, first at their end and then at their start, so that a byte beside it ends the program, as a call of over a second does. */
 #define _DEFAULT_SOURCE
 #include "wattleslate.h"
@@ -9,8 +9,8 @@
 #include <sys/mman.h>
 #include <unistd.h>
 
-enum { PACK, ROWS, FIRST, SECOND, CONTROL, TEXT, SCRATCH, OUT, AREAS };
-enum { CHECK, FIND, PUT, REMOVE, COMPACT, DRAW, DRAW_TWO, CALLS };
+enum { PACK, ROWS, FIRST, SECOND, CONTROL, TEXT, FIGURE, OVERLAPS, SCRATCH, OUT, AREAS };
+enum { CHECK, FIND, PUT, REMOVE, COMPACT, DRAW, DRAW_TWO, CHECK_DRAWING, CALLS };
 #define ROOM ((size_t)1 << 18)
 
 /* An input: what is asked, and the bytes that all areas but the last two hold. */
@@ -19,7 +19,7 @@ static struct {
     uint64_t width, layout, direction;
     uint32_t lengths[AREAS];
 } asked;
-static uint8_t held[TEXT + 1][ROOM];
+static uint8_t held[SCRATCH][ROOM];
 
 /* The pages of each area, the area in them, and what it held after the run before. */
 static uint8_t *pages[AREAS], *area[AREAS], before[AREAS][ROOM];
@@ -45,7 +45,7 @@ static void make_pages(void) {
 static void lend(bool at_end) {
     for (int i = 0; i < AREAS; i++) {
         area[i] = pages[i] + (at_end ? ROOM - asked.lengths[i] : 0);
-        if (i <= TEXT) {
+        if (i < SCRATCH) {
             memcpy(area[i], held[i], asked.lengths[i]);
         } else {
             memset(area[i], 165, asked.lengths[i]);
@@ -69,6 +69,9 @@ static uint64_t answer_of(int call) {
     case DRAW_TWO:
         return wattleslate_draw_two(area[FIRST], n[FIRST], area[SECOND], n[SECOND], area[CONTROL], n[CONTROL], area[TEXT], n[TEXT], area[SCRATCH], n[SCRATCH],
                                     area[OUT], n[OUT]);
+    case CHECK_DRAWING:
+        return wattleslate_check_drawing(area[FIRST], n[FIRST], area[CONTROL], n[CONTROL], area[TEXT], n[TEXT], area[FIGURE], n[FIGURE],
+                                         (const size_t *)(const void *)area[OVERLAPS], n[OVERLAPS] / sizeof(size_t), area[SCRATCH], n[SCRATCH]);
     default:
         return wattleslate_draw_pack(area[PACK], n[PACK], asked.layout, asked.direction, area[CONTROL], n[CONTROL], area[TEXT], n[TEXT], area[SCRATCH],
                                      n[SCRATCH], area[OUT], n[OUT]);
@@ -97,7 +100,7 @@ static bool is_drawing(size_t height, size_t width) {
 
 /* Whether the areas that a call only reads hold what they were lent with: all but a pack that is changed. */
 static bool are_kept(bool changes) {
-    for (int i = changes ? ROWS : PACK; i <= TEXT; i++) {
+    for (int i = changes ? ROWS : PACK; i < SCRATCH; i++) {
         if (memcmp(area[i], held[i], asked.lengths[i]) != 0) {
             return false;
         }
@@ -112,6 +115,25 @@ static bool is_drawn(uint64_t answer, size_t height) {
     return right && all_zero(area[SCRATCH], asked.lengths[SCRATCH]);
 }
 
+/* Whether the scratch is zeros after a check, and what it names is in the list or in the FIGure, or its end. */
+static bool is_checked(uint64_t answer) {
+    size_t where = wattleslate_where(answer);
+    if (!all_zero(area[SCRATCH], asked.lengths[SCRATCH])) {
+        return false;
+    }
+    if (wattleslate_number(answer) != WATTLESLATE_NOT_REFUSED) {
+        return true;
+    }
+    switch (wattleslate_checked(answer)) {
+    case WATTLESLATE_WRONG_OVERLAP:
+        return where < asked.lengths[OVERLAPS] / sizeof(size_t);
+    case WATTLESLATE_WRONG_BYTE:
+        return where <= asked.lengths[FIGURE];
+    default:
+        return answer == WATTLESLATE_ACCEPTED;
+    }
+}
+
 /* Whether the areas hold what they must after a call: what is only read as it was, after a refusal a pack as it was and the other areas zeros, else a pack that is
  * accepted, a part of the pack, or a drawing. */
 static bool is_right(int call, uint64_t answer) {
@@ -123,6 +145,9 @@ static bool is_right(int call, uint64_t answer) {
     }
     if (call == DRAW_TWO) {
         return is_drawn(answer, wattleslate_height(wattleslate_check_font(area[FIRST], asked.lengths[FIRST])));
+    }
+    if (call == CHECK_DRAWING) {
+        return is_checked(answer);
     }
     if (call == DRAW && !is_drawn(answer, height)) {
         return false;
@@ -170,7 +195,7 @@ int main(void) {
         take(&asked.layout, sizeof asked.layout);
         take(&asked.direction, sizeof asked.direction);
         take(asked.lengths, sizeof asked.lengths);
-        for (int i = PACK; i <= TEXT; i++) {
+        for (int i = PACK; i < SCRATCH; i++) {
             take(held[i], asked.lengths[i]);
         }
         for (int call = 0; call < CALLS; call++) {

@@ -7,7 +7,7 @@ use Prim.Native.Nat.{ℕ, _*_, _/_, _%_, _≤_}
 use native.Mathlib.Omega.{arith}
 use lib.ListN.{length}
 use Rattle.ground.specs.Limits.{maxFontLength}
-use Rattle.ground.specs.Refusals.{stackTooHigh, fontsDiffer}
+use Rattle.ground.specs.Refusals.{stackTooHigh, wrongLength}
 use Rattle.ground.specs.declared.refusals.Refusal.{Refusal}
 use Rattle.ground.proofs.Tests.{clash}
 use Rattle.subchars.specs.declared.Mode.{Mode}
@@ -55,7 +55,7 @@ pub values-apart : (a b c : ℕ) → ValuesFit a b c →
 values-apart a b c p = (omega arith, omega arith, omega arith, omega arith)
 
 -- A number of the table and a place in a file have room.
-pub table-fits : (number place : ℕ) → 1 ≤ number → number ≤ fontsDiffer → place ≤ maxFontLength → RefusalFits number place
+pub table-fits : (number place : ℕ) → 1 ≤ number → number ≤ wrongLength → place ≤ maxFontLength → RefusalFits number place
 table-fits number place l m n = record { not-0 = l; number-in-16 = omega arith; place-in-48 = omega arith }
 
 -- A font's: its Height is at most 32, and it has at most 512 characters.

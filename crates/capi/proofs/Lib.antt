@@ -4,3 +4,4 @@ pub mod StackLaws
 pub mod Bounds
 pub mod PackBounds
 pub mod TwoBounds
+pub mod CheckBounds

@@ -10,7 +10,7 @@ use lib.Dec.{eqb, ltb}
 use lib.ListN.{length, length-append}
 use borrow.Author.Tests.{ltb-false}
 use Rattle.ground.specs.Limits.{maxText, maxLineWidth, minScratch}
-use Rattle.ground.specs.Refusals.{refusal, areaTooSmall, textTooLong, lineTooWide, badShape, damagedPack, codePresent, codeAbsent, noRoom, fontsDiffer}
+use Rattle.ground.specs.Refusals.{refusal, areaTooSmall, textTooLong, lineTooWide, badShape, damagedPack, codePresent, codeAbsent, noRoom, wrongLength}
 use Rattle.ground.specs.declared.refusals.Refusal.{Refusal}
 use Rattle.ground.proofs.Tests.{clash}
 use Rattle.subchars.specs.declared.Code.{Code}
@@ -53,7 +53,7 @@ use Rattle.capi.specs.Numbers.{RefusalFits, ValuesFit, PlaceFits}
 use Rattle.capi.proofs.Bounds.{table-fits, control-fits, DrawFits}
 
 -- A number of the table at place 0.
-pub known : (n : ℕ) → 1 ≤ n → n ≤ fontsDiffer → RefusalFits n 0
+pub known : (n : ℕ) → 1 ≤ n → n ≤ wrongLength → RefusalFits n 0
 known n l m = table-fits n 0 l m (omega arith)
 
 -- A pack has fewer live records than bytes.

@@ -14,6 +14,8 @@ use Rattle.subchars.specs.declared.Mode.{Mode}
 use Rattle.subchars.specs.Layouts.{fullLayout, fullVertical, printDirection}
 use Rattle.reader.specs.declared.FontAnswer.{FontAnswer}
 use Rattle.reader.specs.declared.FontAnswer.the-variants.{Read, Refused}
+use Rattle.checking.specs.declared.CheckAnswer.{CheckAnswer}
+use Rattle.checking.specs.declared.CheckAnswer.the-variants as check-is
 use Rattle.wattleslate.specs.ControlCall.{ControlTold}
 use Rattle.wattleslate.specs.DrawCall.{DrawTold}
 use Rattle.join.specs.JoinCall.{JoinTold, refusing, joinTold, joinArea}
@@ -140,3 +142,13 @@ shapeless = Smushing (Controlled 0)
 
 unfoldable pub layoutBy : ℕ → ℕ → Layout
 layoutBy layout direction = cond (legalMode layout direction) (fullLayout layout) shapeless
+
+-- The check of a drawing, 02, Q-8: 0 accepted, 1 a wrong overlap, 2 a wrong byte, above where that is.
+abbrev pub whereWrong : ℕ → ℕ → ℕ
+whereWrong what place = what * valueBound * valueBound + place
+
+abbrev pub checkNumber : CheckAnswer → ℕ
+checkNumber check-is.Accepted = 0
+checkNumber (check-is.WrongOverlap k) = whereWrong 1 k
+checkNumber (check-is.WrongByte p) = whereWrong 2 p
+checkNumber (check-is.Refused r) = refusedAt (r .number) (r .place)

@@ -5,11 +5,11 @@ use mathlib.Core.List.{List, [], _∷_}
 use Prim.Native.Nat.{ℕ}
 use Prim.Native.String.{String}
 use Rattle.ground.specs.Text.{bytes}
-use Rattle.ground.specs.Refusals.{refusal}
+use Rattle.ground.specs.Refusals.{refusal, wrongLength}
 use Rattle.checking.specs.declared.CheckAnswer.{CheckAnswer}
 use Rattle.checking.specs.declared.CheckAnswer.the-variants.{Accepted, WrongOverlap, WrongByte, Refused}
 use Rattle.checking.specs.Difference.{firstDifference}
-use Rattle.checking.specs.Verdict.{wrongLength, afterFirst, verdict}
+use Rattle.checking.specs.Verdict.{afterFirst, verdict}
 
 -- The trace has the first character's overlap too, which is 0.
 given : List ℕ → String → CheckAnswer

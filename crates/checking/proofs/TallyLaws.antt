@@ -9,13 +9,13 @@ use lib.Dec.{eqb}
 use lib.ListN.{length, getD, take, drop, length-append, drop-of-length-le}
 use lib.Seq.{drop-cons, take-length}
 use borrow.Author.Tests.{eq-eqb, ne-eqb}
-use Rattle.ground.specs.Refusals.{refusal}
+use Rattle.ground.specs.Refusals.{refusal, wrongLength}
 use Rattle.checking.specs.declared.CheckAnswer.the-variants.{Refused}
 use Rattle.checking.specs.declared.Compared.{Compared}
 use Rattle.checking.specs.declared.Compared.the-variants.{Same, Differs}
 use Rattle.checking.specs.declared.Tally.{Tally}
 use Rattle.checking.specs.Difference.{further, firstDifference}
-use Rattle.checking.specs.Verdict.{wrongLength, afterFirst, named, verdict}
+use Rattle.checking.specs.Verdict.{afterFirst, named, verdict}
 use Rattle.checking.specs.Steps.{soFar, firstOf, tallied}
 
 -- n places further on

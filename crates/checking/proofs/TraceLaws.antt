@@ -77,6 +77,10 @@ module _ (y : Mode) (h : ℕ) where
           whole = append-assoc trace (o ∷ []) (overlapsFrom y h line′ rest) ∙ ap₂ (λ (x : ℕ) (xs : List ℕ). trace ++ (x ∷ xs)) e (overlaps-alike line′ (attached y h line c) rest p) ∙ t .whole;
         }
 
+    -- and with a line that is alike
+    pub trace-same : (line line′ : Block) (trace : List ℕ) (rest : List Block) → TraceToward line trace rest → Like h line′ line → TraceToward line′ trace rest
+    trace-same line line′ trace rest t p = record { whole = ap (λ (xs : List ℕ). trace ++ xs) (overlaps-alike line′ line rest p) ∙ t .whole }
+
     pub trace-end : (line : Block) (trace : List ℕ) → TraceToward line trace [] → trace ≡ overlapsFrom y h empty all
     unfolding overlapsFrom
     trace-end line trace t = sym (append-nil trace) ∙ t .whole

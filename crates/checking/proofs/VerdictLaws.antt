@@ -10,7 +10,7 @@ use lib.Dec.{eqb, ltb}
 use lib.ListN.{length, getD}
 use borrow.Author.Tests.{eqb-true, eqb-false, eq-eqb, ne-eqb, lt-ltb, le-ltb}
 use Rattle.ground.specs.Limits.{maxLineWidth}
-use Rattle.ground.specs.Refusals.{refusal, lineTooWide}
+use Rattle.ground.specs.Refusals.{refusal, lineTooWide, wrongLength}
 use Rattle.ground.specs.declared.refusals.Refusal.{Refusal}
 use Rattle.ground.proofs.Tests.{below-or-not}
 use Rattle.join.specs.Join.{Block}
@@ -21,7 +21,7 @@ use Rattle.checking.specs.declared.Compared.{Compared}
 use Rattle.checking.specs.declared.CheckAnswer.{CheckAnswer}
 use Rattle.checking.specs.declared.CheckAnswer.the-variants.{Accepted, WrongOverlap, WrongByte, Refused}
 use Rattle.checking.specs.Difference.{firstDifference}
-use Rattle.checking.specs.Verdict.{wrongLength, afterFirst, named, verdict, lineChecked}
+use Rattle.checking.specs.Verdict.{afterFirst, named, verdict, lineChecked}
 use Rattle.checking.proofs.DifferenceLaws.{Parts, differ, first-ends, second-ends, PartsFirst, Outcome, same, parted, outcome, same-exactly, differs-exactly}
 
 -- "The first wrong overlap": in a list of the right length overlap k is wrong, and all before it are right.

@@ -6,7 +6,7 @@ use mathlib.Core.List.{List, [], _∷_}
 use lib.Dec.{eqb, ltb}
 use lib.ListN.{length}
 use Rattle.ground.specs.Limits.{maxLineWidth}
-use Rattle.ground.specs.Refusals.{refusal, lineTooWide}
+use Rattle.ground.specs.Refusals.{refusal, lineTooWide, wrongLength}
 use Rattle.join.specs.Join.{Block}
 use Rattle.figure.specs.Line.{shown}
 use Rattle.checking.specs.declared.Compared.{Compared}
@@ -14,10 +14,6 @@ use Rattle.checking.specs.declared.Compared.the-variants.{Same, Differs}
 use Rattle.checking.specs.declared.CheckAnswer.{CheckAnswer}
 use Rattle.checking.specs.declared.CheckAnswer.the-variants.{Accepted, WrongOverlap, WrongByte, Refused}
 use Rattle.checking.specs.Difference.{firstDifference}
-
--- "A list of the wrong length is 25."
-abbrev pub wrongLength : ℕ
-wrongLength = 25
 
 -- "The list has one overlap for each drawn character after the first." A trace has the overlap of each drawn character.
 abbrev pub afterFirst : List ℕ → List ℕ
@@ -30,7 +26,7 @@ named (Differs k) bytes = WrongOverlap k
 named Same (Differs p) = WrongByte p
 named Same Same = Accepted
 
--- "Accept exactly if each overlap is the one of demand 3 and the bytes are the drawing": the right overlaps and the drawing, and what the other program gave.
+-- "Accept exactly if each overlap is the one of demand 3 and the bytes are the drawing": the right overlaps and the drawing, and what the other program gave. "A list of the wrong length is 25."
 unfoldable pub verdict : List ℕ → List ℕ → List ℕ → List ℕ → CheckAnswer
 verdict right drawing overlaps figure =
     cond (eqb (length overlaps) (length right)) (named (firstDifference right overlaps) (firstDifference drawing figure)) (Refused (refusal wrongLength 0))

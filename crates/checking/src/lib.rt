@@ -18,9 +18,6 @@ ghost use Rattle.checking.specs.Difference.{firstDifference};
 ghost use Rattle.checking.specs.Verdict.{named, lineChecked};
 ghost use Rattle.checking.specs.Steps.{soFar, firstOf, tallied};
 
-// A list of overlaps of the wrong length.
-pub const WRONG_LENGTH: usize = 25;
-
 // How two lists compare: they are the same, or they first differ at a place.
 pub enum Compared {
     Same,
@@ -193,7 +190,7 @@ pub fn check_line(
     let drawn = tally.drawn;
     if overlaps.len() != right_length(drawn) {
         return CheckAnswer::Refused(Refusal {
-            number: WRONG_LENGTH,
+            number: refusals::WRONG_LENGTH,
             place: 0,
         });
     }

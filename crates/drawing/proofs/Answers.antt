@@ -231,7 +231,7 @@ module _ (size : ℕ) (s control text : List ℕ) (room : ℕ) where
     abbrev output : List ℕ
     output = padded (bytesOf (drawLined size s control text) room) room
 
-    bytes-are : bytesOf (drawLined size s control text) room ≡ shown hardblank (x .header .height) (lineBy x)
+    pub bytes-are : bytesOf (drawLined size s control text) room ≡ shown hardblank (x .header .height) (lineBy x)
     unfolding bytesOf outputBytes modeOf
     bytes-are =
         ap (λ (l : Lined). bytesOf l room) (is-lined x t) ∙

@@ -53,6 +53,10 @@ module _ (y : Mode) (h : ℕ) (source : Source) where
     unfolding codesOf mappedCodes charactersOf choice-at
     rest-next i u = ap (λ (t : List ℕ). charactersOf source (textCodes cs k t)) (drop-cons text i 0 u) ∙ ap (λ (j : ℕ). withChoice (choice-at i) (rest-from j)) (sym (add-one i))
 
+    pub rest-more : (i : ℕ) → i < length text → rest-from i ≡ withChoice (byteChoice source cs k (getD text i 0)) (rest-from (i + 1))
+    unfolding choice-at
+    rest-more i u = rest-next i u
+
     module _ (limit : ℕ) (area : List ℕ) (n i : ℕ) (toward : Toward area n i) where
       abbrev line : Block
       line = scratchLine (y .direction) n area

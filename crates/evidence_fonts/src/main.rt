@@ -1,5 +1,6 @@
 // Answers requests on standard input for drawings by two fonts and for their rows: which font a code is taken from, what stands in, whose layout counts, and the
-// refusals in their order.
+// refusals in their order; and for checks of another program's drawings.
+mod checks;
 mod drawings;
 mod parts;
 
@@ -14,8 +15,11 @@ use lines::Cursor;
 use lines::LineStep;
 use lines::words::starts_with;
 
-// A request about two fonts; the words are those behind their names.
-fn about_fonts<'a>(line: &[u8], first: &'a [u8], second: &'a [u8], words: &[u8]) {
+// A request about two fonts, or about a font and a FIGure; the words are those behind their names.
+fn about_files<'a>(line: &[u8], first: &'a [u8], second: &'a [u8], words: &[u8]) {
+    if starts_with(line, b"check ") {
+        checks::show_check(first, second, words);
+    }
     if starts_with(line, b"draw ") {
         drawings::show_drawing(first, second, words);
     }
@@ -24,7 +28,7 @@ fn about_fonts<'a>(line: &[u8], first: &'a [u8], second: &'a [u8], words: &[u8])
     }
 }
 
-// One request: a word, the names of two fonts, and what is asked of them. The answer begins with the request, of which 64 bytes are shown.
+// One request: a word, the names of two files, and what is asked of them. The answer begins with the request, of which 64 bytes are shown.
 fn request(line: &[u8]) {
     let mut buffer = [0u8; 65537];
     let mut other = [0u8; 65537];
@@ -33,7 +37,7 @@ fn request(line: &[u8]) {
     let n = load(word_of(names), &mut buffer);
     let m = load(word_of(rest), &mut other);
     heading(shortened(line));
-    about_fonts(line, &buffer[..n], &other[..m], behind(rest));
+    about_files(line, &buffer[..n], &other[..m], behind(rest));
     text(b"\n");
 }
 
@@ -54,7 +58,7 @@ fn requests(t: &[u8]) {
 }
 
 fn main() {
-    let mut buffer = [0u8; 16384];
+    let mut buffer = [0u8; 32768];
     let n = io::read_full(STDIN_FILENO, &mut buffer);
     requests(&buffer[..n]);
 }

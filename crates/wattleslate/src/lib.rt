@@ -2,6 +2,7 @@
 
 // The types that the calls take and answer, and the two calls over a lent index.
 pub use chars::Entry;
+pub use checking::CheckAnswer;
 pub use drawing::DrawAnswer;
 pub use entries::find_in;
 pub use entries::read_font;
@@ -49,6 +50,7 @@ ghost use Rattle.drawing.specs.Drawing.{PutOut};
 ghost use Rattle.packdrawing.specs.PackDrawing.{packLined};
 ghost use Rattle.twofonts.specs.RowOfTwo.{rowOfTwo};
 ghost use Rattle.twofonts.specs.TwoDrawing.{twoLined};
+ghost use Rattle.drawingcheck.specs.CheckDrawing.{drawingChecked};
 ghost use Rattle.request.specs.Request.{rowRequest};
 ghost use Rattle.flc.specs.Lists.{commandLists};
 ghost use Rattle.wattleslate.specs.LookUpCall.{lookUpTells, lookUpTold};
@@ -360,4 +362,21 @@ pub fn draw_two<'a>(
     ensures scratch { λ r. ⌜ now (scratch .exit) ≡ zeros (length (now (scratch .entry))) ⌝ }
 {
     twofonts::draw_two(first, second, control, text, scratch, out)
+}
+
+// Checks a FIGure and a list of overlaps that another program gave for a text, one overlap for each drawn character after the first: accepted, or the first wrong overlap
+// in the list, else the first wrong byte. `scratch` has 32,000 bytes or more, and is all zeros afterwards. Refusals: 9 for the scratch, the font's (1 to 8), the control
+// file's (10 to 14), 15, 16, then 25 for a list of the wrong length.
+pub fn check_drawing(
+    font: &[u8],
+    control: &[u8],
+    text: &[u8],
+    figure: &[u8],
+    overlaps: &[usize],
+    scratch: &mut [u8],
+) -> CheckAnswer
+    ensures answer { λ r. ⌜ r ≡ drawingChecked (length (now (scratch .entry))) (now (font .entry)) (now (control .entry)) (now (text .entry)) (now (overlaps .entry)) (now (figure .entry)) ⌝ }
+    ensures scratch { λ r. ⌜ now (scratch .exit) ≡ zeros (length (now (scratch .entry))) ⌝ }
+{
+    drawingcheck::check_drawing(font, control, text, figure, overlaps, scratch)
 }

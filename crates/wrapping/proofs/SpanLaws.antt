@@ -11,7 +11,6 @@ use borrow.Rule.Slice.PartMut.{putMid}
 use Rattle.ground.specs.Limits.{maxLineWidth}
 use Rattle.ground.proofs.Runs.{rest-is}
 use Rattle.subchars.specs.declared.Direction.{Direction}
-use Rattle.subchars.specs.declared.Direction.the-variants.{LeftToRight, RightToLeft}
 use Rattle.subchars.specs.declared.Mode.{Mode}
 use Rattle.join.specs.Join.{Block, rowsOf}
 use Rattle.join.specs.Writing.{Like, fromOn}
@@ -43,11 +42,6 @@ module _ (y : Mode) (h : ℕ) (line : List ℕ → Block) (limit : ℕ) (s : Lis
         | yes l ↦ absurd (omega (arith, x .beyond l, span-narrow e q))
         | no g ↦ x .within (omega arith)
       ]
-
--- The columns of a line in the area.
-pub start-fits : (d : Direction) (w : ℕ) → w ≤ maxLineWidth → lineStart d w + w ≤ maxLineWidth
-start-fits LeftToRight w l = omega arith
-start-fits RightToLeft w l = omega arith
 
 -- The part from a place on is all behind it.
 pub rest-long : (out : List ℕ) (at : ℕ) → length (take (length out - at) (drop at out)) ≡ length out - at

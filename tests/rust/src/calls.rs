@@ -1,5 +1,5 @@
 //! The calls of the static library, in safe functions. They ask nothing of their input, so nothing is tested here.
-use crate::plain::{join, pack, stack, two, wrap};
+use crate::plain::{check, join, pack, stack, two, wrap};
 
 extern "C" {
     fn wattleslate_check_font(font: *const u8, font_len: usize) -> u64;
@@ -107,6 +107,20 @@ extern "C" {
         scratch_len: usize,
         out: *mut u8,
         out_len: usize,
+    ) -> u64;
+    fn wattleslate_check_drawing(
+        font: *const u8,
+        font_len: usize,
+        control: *const u8,
+        control_len: usize,
+        text: *const u8,
+        text_len: usize,
+        figure: *const u8,
+        figure_len: usize,
+        overlaps: *const usize,
+        overlaps_len: usize,
+        scratch: *mut u8,
+        scratch_len: usize,
     ) -> u64;
 }
 
@@ -301,6 +315,26 @@ pub fn draw_two(r: &two::Request, scratch: &mut [u8], out: &mut [u8]) -> u64 {
             scratch.len(),
             out.as_mut_ptr(),
             out.len(),
+        )
+    }
+}
+
+pub fn check_drawing(r: &check::Request, scratch: &mut [u8]) -> u64 {
+    // SAFETY: as above.
+    unsafe {
+        wattleslate_check_drawing(
+            r.font.as_ptr(),
+            r.font.len(),
+            r.control.as_ptr(),
+            r.control.len(),
+            r.text.as_ptr(),
+            r.text.len(),
+            r.figure.as_ptr(),
+            r.figure.len(),
+            r.overlaps.as_ptr(),
+            r.overlaps.len(),
+            scratch.as_mut_ptr(),
+            scratch.len(),
         )
     }
 }

@@ -261,5 +261,6 @@ pub fn run() -> (u64, u64) {
     check.wrapped();
     check.packs();
     check.two_fonts();
+    check.checked_drawings();
     (check.made, check.wrong)
 }

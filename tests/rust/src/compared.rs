@@ -8,12 +8,12 @@ pub struct Count {
     name: &'static str,
     /// The refusals that it can give.
     refusals: &'static [u64],
-    answers: [u64; 25],
+    answers: [u64; 26],
 }
 
 impl Count {
     pub fn new((name, refusals): (&'static str, &'static [u64])) -> Count {
-        Count { name, refusals, answers: [0; 25] }
+        Count { name, refusals, answers: [0; 26] }
     }
 
     pub fn add(&mut self, answer: u64) {

@@ -1,6 +1,10 @@
 //! Two implementations of the calls, the proved one by its static library and a plain one, and what is needed to compare them.
 pub mod calls;
 pub mod cases;
+pub mod check_cases;
+pub mod check_compare;
+pub mod check_met;
+pub mod checks;
 pub mod compared;
 pub mod inputs;
 pub mod met;

@@ -10,7 +10,7 @@ fn starred(header: &str) -> Vec<u8> {
 }
 
 /// A font of two rows: code 97 is `a` above `b`, and every other required character a mark above itself.
-fn two_rows(header: &str, mark: char) -> Vec<u8> {
+pub fn two_rows(header: &str, mark: char) -> Vec<u8> {
     let rows = |code: i32| if code == 97 { "a@\nb@@\n".into() } else { format!("{mark}@\n{mark}@@\n") };
     format!("{header}\n{}", (32..134).map(rows).collect::<String>()).into_bytes()
 }

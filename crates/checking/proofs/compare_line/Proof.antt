@@ -1,23 +1,17 @@
 -- `checking::compare_line` meets its contract.
 -- Assumes nothing.
 use mathlib.Core.Path.{_∙_, ap}
-use Prim.Native.Nat.{ℕ, _≤_, _+_, _*_}
+use Prim.Native.Nat.{ℕ, _+_, _*_}
 use native.Mathlib.Omega.{arith}
 use borrow.Author.Needs.{needs}
 use Rattle.ground.specs.Limits.{maxLineWidth}
-use Rattle.subchars.specs.declared.Direction.the-variants.{LeftToRight, RightToLeft}
-use Rattle.subchars.specs.declared.Direction.{Direction}
 use Rattle.join.specs.Join.{rowsOf}
 use Rattle.join.specs.Writing.{fromOn}
 use Rattle.figure.specs.Line.{withLF, shown}
-use Rattle.figure.specs.Scratch.{lineStart}
+use Rattle.figure.proofs.Showing.{start-fits}
 use Rattle.checking.specs.Difference.{firstDifference}
 use Rattle.checking.proofs.compare_line.Statement.{statement}
 use Rattle.checking.proofs.compare_line.Tie as tie
-
-start-fits : (d : Direction) (w : ℕ) → w ≤ maxLineWidth → lineStart d w + w ≤ maxLineWidth
-start-fits LeftToRight w l = omega arith
-start-fits RightToLeft w l = omega arith
 
 line-start-requires : tie.Need-line-start-requires
 line-start-requires c κs = search needs

@@ -7,9 +7,11 @@ use wattleslate_tests::met::{self, Drawing, Met};
 use wattleslate_tests::plain::wrap::{self, Areas, Request};
 use wattleslate_tests::random::Random;
 use wattleslate_tests::wrapped::{self, Asked};
-use wattleslate_tests::{calls, cases, inputs, pack_compare, pack_met, plain, replaced, rows, stacks, two_compare, two_met, wraps};
+use wattleslate_tests::{
+    calls, cases, check_compare, check_met, inputs, pack_compare, pack_met, plain, replaced, rows, stacks, two_compare, two_met, wraps,
+};
 
-const CALLS: [(&str, &[u64]); 14] = [
+const CALLS: [(&str, &[u64]); 15] = [
     ("join", &[9, 16, 17]),
     ("check_font", &[1, 2, 3, 4, 5, 6, 7, 8]),
     ("check_control", &[10, 11, 12, 13, 14]),
@@ -24,6 +26,7 @@ const CALLS: [(&str, &[u64]); 14] = [
     ("pack_compact", &[20]),
     ("draw_pack", &[9, 10, 11, 12, 13, 14, 15, 16, 17, 20]),
     ("draw_two", &[1, 2, 3, 4, 5, 6, 7, 8, 9, 10, 11, 12, 13, 14, 15, 16, 24]),
+    ("check_drawing", &[1, 2, 3, 4, 5, 6, 7, 8, 9, 10, 11, 12, 13, 14, 15, 16, 25]),
 ];
 
 fn compare_join(r: &mut Random, count: &mut Count) {
@@ -160,7 +163,7 @@ fn compare_draw_wrapped(r: &mut Random, font: &[u8], control: &[u8], count: &mut
 }
 
 /// What one round compares: ten joins and stacks, a font, three control files, a line, two lines and a wrapped text drawn with the font, and packs.
-fn round(r: &mut Random, mut font: Vec<u8>, damaged: bool, counts: &mut [Count; 14], cases: &mut [Met; 9]) {
+fn round(r: &mut Random, mut font: Vec<u8>, damaged: bool, counts: &mut [Count; 15], cases: &mut [Met; 10]) {
     for _ in 0..10 {
         compare_join(r, &mut counts[0]);
         compare_stack(r, &mut counts[4], &mut cases[0]);
@@ -213,6 +216,7 @@ fn main() {
         Met::new("letters of packs met", pack_met::LETTERS),
         Met::new("drawings from packs met", pack_met::DRAWINGS),
         Met::new("drawings by two fonts met", two_met::CASES),
+        Met::new("checks of drawings met", check_met::CASES),
     ];
     for k in 0..times {
         let font = if k % 8 == 0 { console.clone() } else { inputs::font(&mut r) };
@@ -220,6 +224,9 @@ fn main() {
     }
     for _ in 0..times {
         two_compare::round(&mut r, [&console, &accents], &mut counts[13], &mut cases[8]);
+    }
+    for _ in 0..times {
+        check_compare::round(&mut r, &console, &mut counts[14], &mut cases[9]);
     }
     let never = counts.iter().map(Count::print).sum::<usize>() + cases.iter().map(Met::print).sum::<usize>();
     println!("no difference, {:.1} s; never met: {never}", start.elapsed().as_secs_f64());

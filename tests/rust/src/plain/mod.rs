@@ -1,4 +1,5 @@
 //! A plain implementation of document 01 and of the requests of document 02, written from those papers and sharing no code with the crates: short, and not fast.
+pub mod check;
 pub mod control;
 pub mod draw;
 pub mod font;
