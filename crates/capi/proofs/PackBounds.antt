@@ -25,7 +25,7 @@ use Rattle.records.specs.declared.Place.{Place}
 use Rattle.records.specs.declared.Place.the-variants.{At, Nowhere}
 use Rattle.records.specs.Versions.{headLength, recordHeadLength}
 use Rattle.records.specs.Records.{minusOne, isLive, hasLive, liveCount}
-use Rattle.records.specs.Steps.{placeIn}
+use Rattle.records.specs.Places.{placeIn}
 use Rattle.records.proofs.VersionLaws.{head-length-low}
 use Rattle.records.proofs.ListingLaws.{fine}
 use Rattle.edits.specs.Changes.{joined}

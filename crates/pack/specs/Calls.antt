@@ -15,7 +15,7 @@ use Rattle.records.specs.declared.Place.the-variants.{At, Nowhere}
 use Rattle.records.specs.Versions.{headLength, recordHeadLength, maxWidth}
 use Rattle.rows.specs.Rows.{legalByte}
 use Rattle.records.specs.Records.{minusOne, hasLive, liveCount}
-use Rattle.records.specs.Steps.{placeIn}
+use Rattle.records.specs.Places.{placeIn}
 use Rattle.edits.specs.Changes.{joined, newRecord, removed, placed, hasFree, kept}
 use Rattle.records.specs.Letters.{Letter, letter, noLetter}
 use Rattle.heads.specs.Pack.{Pack, says, damaged, meaning, remade}

@@ -163,7 +163,7 @@ use Rattle.records.specs.declared.Head.{Head}
 use Rattle.records.specs.declared.Place.the-variants as place-is
 use Rattle.records.specs.Versions.{headLength, recordHeadLength, maxWidth}
 use Rattle.records.specs.Records.{isZero, live as liveByte, free as freeByte, minusOne, codeIn, widthIn, rowsIn, sizeIn, listing, noneTwice, hasLive, liveCount}
-use Rattle.records.specs.Steps.{placeIn}
+use Rattle.records.specs.Places.{placeIn}
 use Rattle.records.specs.Letters.{letter, noLetter}
 use Rattle.edits.specs.Changes as edits
 use Rattle.heads.specs.Pack as heads
