@@ -2,19 +2,19 @@
 -- Assumes nothing.
 use mathlib.Core.Path.{_≡_, refl, sym, ap, _∙_, subst}
 use mathlib.Core.Bool.{Bool, true, false}
-use mathlib.Core.List.{List}
+use mathlib.Core.List.{List, _∷_}
 use mathlib.Core.Logic.{_↔_}
-use Prim.Native.Nat.{ℕ, _≤_, _<_}
+use Prim.Native.Nat.{ℕ, _-_, _≤_, _<_}
 use native.Mathlib.Omega.{arith}
 use lib.Dec.{ltb}
-use lib.ListN.{length}
+use lib.ListN.{length, getD, take}
 use borrow.Author.Tests.{ltb-true, ltb-false}
 use Rattle.ground.specs.Limits.{maxText, maxLineWidth, minScratch}
 use Rattle.ground.specs.Refusals.{refusal, tooManyCharacters, areaTooSmall, controlFileTooLong, tooManyCommands, textTooLong, lineTooWide, wrongLength}
 use Rattle.ground.specs.declared.refusals.Refusal.{Refusal}
 use Rattle.ground.proofs.Tests.{clash}
 use Rattle.join.specs.Join.{Block}
-use Rattle.figure.specs.Line.{shown}
+use Rattle.figure.specs.Line.{empty, overlapWith, lineFrom, overlapsFrom, shown}
 use Rattle.header.specs.declared.Header.{Header}
 use Rattle.chars.specs.declared.Entry.{Entry}
 use Rattle.font.specs.Font as font
@@ -25,12 +25,13 @@ use Rattle.flc.proofs.RefusalLaws.{control-refusal}
 use Rattle.source.specs.declared.Counts.{Counts}
 use Rattle.source.specs.Source.{fontSource}
 use Rattle.drawing.specs.declared.DrawAnswer.the-variants.{Drawn}
-use Rattle.drawing.specs.Drawing.{textCodes, lineOf, traceOf, modeOf, drawLined, linedAnswer, bytesOf}
+use Rattle.drawing.specs.Drawing.{textCodes, charactersOf, lineOf, traceOf, modeOf, drawLined, linedAnswer, bytesOf}
 use Rattle.drawing.proofs.Answers as drawn
 use Rattle.checking.specs.declared.CheckAnswer.{CheckAnswer}
 use Rattle.checking.specs.declared.CheckAnswer.the-variants.{Accepted, WrongOverlap, WrongByte, Refused}
 use Rattle.checking.proofs.DifferenceLaws.{PartsFirst}
 use Rattle.checking.specs.Verdict.{afterFirst, verdict, lineChecked}
+use Rattle.checking.proofs.TraceLaws.{one-less, each-overlap}
 use Rattle.checking.proofs.VerdictLaws.{FirstWrong, accepted-exactly, overlap-exactly, byte-exactly, refused-exactly, line-16, not-too-wide}
 use Rattle.drawingcheck.specs.CheckDrawing.{checkedFrom, checkedBy, checkedOf, drawingChecked}
 use Rattle.drawingcheck.proofs.CheckCases as cases
@@ -56,6 +57,19 @@ module _ (size : ℕ) (s control text : List ℕ) where
 
   abbrev pub drawingBy : CheckRead → List ℕ
   drawingBy x = shown (x .header .hardblank .0) (x .header .height) (lineBy x)
+
+  -- "The list has one overlap for each drawn character after the first",
+  pub right-many : (x : CheckRead) → length (rightBy x) ≡ length (charactersOf (fontSource s (x .characters)) (textCodes (x .commands) (x .stages) text)) - 1
+  unfolding traceOf
+  right-many x = one-less (modeOf (x .header)) (x .header .height) (charactersOf (fontSource s (x .characters)) (textCodes (x .commands) (x .stages) text))
+
+  -- and "each overlap is the one of demand 3".
+  pub right-each : (x : CheckRead) (c : Block) (cs : List Block) → charactersOf (fontSource s (x .characters)) (textCodes (x .commands) (x .stages) text) ≡ c ∷ cs → (k : ℕ) → k < length cs →
+      getD (rightBy x) k 0 ≡ overlapWith (modeOf (x .header)) (x .header .height) (lineFrom (modeOf (x .header)) (x .header .height) empty (c ∷ take k cs)) (getD cs k empty)
+  unfolding traceOf
+  right-each x c cs e k u =
+      ap (λ (all : List Block). getD (afterFirst (overlapsFrom (modeOf (x .header)) (x .header .height) empty all)) k 0) e ∙
+      each-overlap (modeOf (x .header)) (x .header .height) c cs k u
 
   module _ (overlaps figure : List ℕ) where
     -- "9 (scratch under 32,000), font, control, 15, .. 16"; then the verdict: 25, the first wrong overlap, the first wrong byte, or accepted.

@@ -1,6 +1,6 @@
 -- The promises: every sentence of the three demands, every row of the refusal table and the sentences of the requests that have landed, in the papers' order,
 -- each as a theorem about the definitions that the contracts of the public calls cite. A statement stands here in full, but for a few data types of the crates below that it names:
--- how far the lines of a file are good (`Comes`, `Reaches`), how characters stand (`InOrder`, `EachTagged`), how the lines of a text stand (`InOrder`, `Apart`, `pieces`), `Last`, `NoneFits` and `Fails`. Its proof is one
+-- how far the lines of a file are good (`Comes`, `Reaches`), how characters stand (`InOrder`, `EachTagged`), how the lines of a text stand (`InOrder`, `Apart`, `pieces`), `Last`, `NoneFits`, `Fails`, what the files of a check say (`CheckRead`), and how two lists first part (`FirstWrong`, `PartsFirst`). Its proof is one
 -- line that cites the law, so that what lies behind need not be opened.
 -- Assumes nothing.
 use mathlib.Core.Path.{_≡_, refl, ap}
@@ -66,7 +66,7 @@ use Rattle.stack.proofs.Answers as stack-answers
 use Rattle.stack.proofs.Answers.{BadStack}
 use Rattle.stack.proofs.Bytes.{stacked-byte}
 use Rattle.drawing.specs.declared.DrawAnswer.{DrawAnswer}
-use Rattle.figure.specs.Line.{attached, empty, shown}
+use Rattle.figure.specs.Line.{attached, empty, overlapWith, lineFrom, shown}
 use Rattle.drawing.specs.declared.DrawAnswer.the-variants as draw-is
 use Rattle.figure.proofs.Folding.{first-whole}
 use Rattle.join.specs.Writing.{Like}
@@ -128,7 +128,7 @@ use Rattle.flc.proofs.TableLaws.{Reaches}
 use Rattle.flc.proofs.MappingLaws as mapping
 use Rattle.flc.proofs.MappingLaws.{NoneFits}
 use Rattle.source.specs.Source.{Source, fontSource, packSource}
-use Rattle.drawing.specs.Drawing.{charactersOf, byteChoice, fontLine, fontCounts, lineOf, textCodes, directionOf, Lined, drawLined, linedAnswer, bytesOf}
+use Rattle.drawing.specs.Drawing.{charactersOf, byteChoice, fontLine, fontCounts, lineOf, textCodes, traceOf, directionOf, Lined, drawLined, linedAnswer, bytesOf}
 use Rattle.drawing.specs.Steps.{withCharacter}
 use Rattle.drawing.proofs.Answers as drawing
 use Rattle.drawing.proofs.DrawingLaws as drawings
@@ -202,6 +202,7 @@ use Rattle.twofonts.proofs.TwoFontsLaws as two-fonts
 use Rattle.twofonts.proofs.TwoFontsLaws.{EachHas, inFirst}
 use Rattle.checking.specs.declared.CheckAnswer.{CheckAnswer}
 use Rattle.checking.specs.declared.CheckAnswer.the-variants as check-is
+use Rattle.checking.specs.Verdict.{afterFirst}
 use Rattle.checking.proofs.DifferenceLaws.{PartsFirst}
 use Rattle.checking.proofs.VerdictLaws.{FirstWrong}
 use Rattle.drawingcheck.specs.CheckDrawing.{drawingChecked}
@@ -1753,34 +1754,43 @@ first-font-alone = two-fonts.covered-draws
 
 -- ================================================================ document 02, Q-8
 
--- The check of a FIGure and a list of overlaps for a text. The line of the text, its right overlaps and its drawing are those of `draw`, where neither 9, a refusal of either file, nor 15 is
--- given (`CheckRead`).
+-- The check of a FIGure and a list of overlaps for a text, where neither 9, a refusal of either file, nor 15 is given (`CheckRead` has what the files say, and that the text is short enough): the
+-- characters that are drawn, the line of the text, its right overlaps and its drawing are those of `draw`.
 module _ (size : ℕ) (s control text : List ℕ) where
-  abbrev FilesRead : Type 0
-  FilesRead = CheckRead size s control text
+  abbrev charactersDrawn : CheckRead size s control text → List Block
+  charactersDrawn x = charactersOf (fontSource s (x .characters)) (textCodes (x .commands) (x .stages) text)
 
-  abbrev lineDrawn : FilesRead → Block
-  lineDrawn = check-answers.lineBy size s control text
+  abbrev lineDrawn : CheckRead size s control text → Block
+  lineDrawn x = lineOf (modeOf (x .header)) (x .header .height) (fontSource s (x .characters)) (textCodes (x .commands) (x .stages) text)
 
-  abbrev rightOverlaps : FilesRead → List ℕ
-  rightOverlaps = check-answers.rightBy size s control text
+  abbrev rightOverlaps : CheckRead size s control text → List ℕ
+  rightOverlaps x = afterFirst (traceOf (modeOf (x .header)) (x .header .height) (fontSource s (x .characters)) (textCodes (x .commands) (x .stages) text) .overlaps)
 
-  abbrev itsDrawing : FilesRead → List ℕ
-  itsDrawing = check-answers.drawingBy size s control text
+  abbrev itsDrawing : CheckRead size s control text → List ℕ
+  itsDrawing x = shown (x .header .hardblank .0) (x .header .height) (lineDrawn x)
+
+  -- "The list has one overlap for each drawn character after the first."
+  one-overlap-for-each-after-the-first : (x : CheckRead size s control text) → length (rightOverlaps x) ≡ length (charactersDrawn x) - 1
+  one-overlap-for-each-after-the-first = check-answers.right-many size s control text
+
+  -- "Each overlap is the one of demand 3": that of the line so far, the first character and k more, and the next character.
+  each-overlap-is-that-of-the-join : (x : CheckRead size s control text) (c : Block) (cs : List Block) → charactersDrawn x ≡ c ∷ cs → (k : ℕ) → k < length cs →
+      getD (rightOverlaps x) k 0 ≡ overlapWith (modeOf (x .header)) (x .header .height) (lineFrom (modeOf (x .header)) (x .header .height) empty (c ∷ take k cs)) (getD cs k empty)
+  each-overlap-is-that-of-the-join = check-answers.right-each size s control text
 
   module _ (overlaps figure : List ℕ) where
     abbrev Checks : CheckAnswer → Type 0
     Checks a = drawingChecked size s control text overlaps figure ≡ a
 
     -- "Accept exactly if each overlap is the one of demand 3 and the bytes are the drawing."
-    accepted-exactly-if : Checks check-is.Accepted ↔ ((x : FilesRead) × (lineDrawn x .width ≤ maxLineWidth) × (overlaps ≡ rightOverlaps x) × (figure ≡ itsDrawing x))
+    accepted-exactly-if : Checks check-is.Accepted ↔ ((x : CheckRead size s control text) × (lineDrawn x .width ≤ maxLineWidth) × (overlaps ≡ rightOverlaps x) × (figure ≡ itsDrawing x))
     accepted-exactly-if = check-answers.accepted size s control text overlaps figure
 
     -- "The check names the first wrong overlap, else the first wrong byte; where one FIGure is the start of the other, that is the shorter one's end."
-    first-wrong-overlap : (k : ℕ) → Checks (check-is.WrongOverlap k) ↔ ((x : FilesRead) × (lineDrawn x .width ≤ maxLineWidth) × FirstWrong k (rightOverlaps x) overlaps)
+    first-wrong-overlap : (k : ℕ) → Checks (check-is.WrongOverlap k) ↔ ((x : CheckRead size s control text) × (lineDrawn x .width ≤ maxLineWidth) × FirstWrong k (rightOverlaps x) overlaps)
     first-wrong-overlap = check-answers.wrong-overlap size s control text overlaps figure
 
-    first-wrong-byte : (p : ℕ) → Checks (check-is.WrongByte p) ↔ ((x : FilesRead) × (lineDrawn x .width ≤ maxLineWidth) × (overlaps ≡ rightOverlaps x) × PartsFirst p (itsDrawing x) figure)
+    first-wrong-byte : (p : ℕ) → Checks (check-is.WrongByte p) ↔ ((x : CheckRead size s control text) × (lineDrawn x .width ≤ maxLineWidth) × (overlaps ≡ rightOverlaps x) × PartsFirst p (itsDrawing x) figure)
     first-wrong-byte = check-answers.wrong-byte size s control text overlaps figure
 
     -- "Refusals: the drawing's, first; a list of the wrong length is 25."
@@ -1799,13 +1809,13 @@ module _ (size : ℕ) (s control text : List ℕ) where
         ((p ≡ 0) × (minScratch ≤ size) × (h : Header) × (es : List Entry) × (reading s ≡ says h es) × (cs : List Command) × (k : ℕ) × (flc.control control ≡ flc.reads cs k) × (maxText < length text))
     refusal-15-of-check-drawing = check-answers.row-15 size s control text overlaps figure
 
-    refusal-16-of-check-drawing : (p : ℕ) → Checks (check-is.Refused (refusal lineTooWide p)) ↔ ((p ≡ 0) × (x : FilesRead) × (maxLineWidth < lineDrawn x .width))
+    refusal-16-of-check-drawing : (p : ℕ) → Checks (check-is.Refused (refusal lineTooWide p)) ↔ ((p ≡ 0) × (x : CheckRead size s control text) × (maxLineWidth < lineDrawn x .width))
     refusal-16-of-check-drawing = check-answers.row-16 size s control text overlaps figure
 
-    refusal-25-of-check-drawing : (p : ℕ) → Checks (check-is.Refused (refusal wrongLength p)) ↔ ((p ≡ 0) × (x : FilesRead) × (lineDrawn x .width ≤ maxLineWidth) × (length overlaps ≡ length (rightOverlaps x) → ⊥))
+    refusal-25-of-check-drawing : (p : ℕ) → Checks (check-is.Refused (refusal wrongLength p)) ↔ ((p ≡ 0) × (x : CheckRead size s control text) × (lineDrawn x .width ≤ maxLineWidth) × (length overlaps ≡ length (rightOverlaps x) → ⊥))
     refusal-25-of-check-drawing = check-answers.row-25 size s control text overlaps figure
 
   -- What `draw` puts out, with the overlaps of its trace, is accepted.
   own-drawing-accepted : (room w : ℕ) (n : Counts) → linedAnswer (drawLined size s control text) room ≡ draw-is.Drawn w n →
-      (x : FilesRead) × (drawingChecked size s control text (rightOverlaps x) (bytesOf (drawLined size s control text) room) ≡ check-is.Accepted)
+      (x : CheckRead size s control text) × (drawingChecked size s control text (rightOverlaps x) (bytesOf (drawLined size s control text) room) ≡ check-is.Accepted)
   own-drawing-accepted = check-answers.own-drawing size s control text
