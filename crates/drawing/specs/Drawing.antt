@@ -133,7 +133,7 @@ unfoldable pub bytesOf : Lined → ℕ → List ℕ
 bytesOf (unlined r) room = []
 bytesOf (lined y h l n) room = outputBytes (y .hardblank .0) h l room
 
--- "A refusal fills every lent writable area with zeros. A success fills all room behind its answer with zeros." The answer and the output, of the
+-- A refusal "fills every lent writable area with zeros. A success fills all room behind its answer, .. with zeros." The answer and the output, of the
 -- given room.
 pub record PutOut (l : Lined) (room : ℕ) (answer : DrawAnswer) (output : List ℕ) : Type 0 where
   pub answers : answer ≡ linedAnswer l room

@@ -100,7 +100,7 @@ use Rattle.font.proofs.Comes.{Comes, comments, character, first-row, more-rows}
 use Rattle.font.proofs.TableLaws as font-rows
 use Rattle.entries.specs.Filling.{fontReading, zeroEntry, indexOf}
 use Rattle.entries.proofs.RefusalLaws as index
-use Rattle.entries.specs.Finding.{entryTells, findTold}
+use Rattle.entries.specs.Finding.{entryTells, foundTold}
 use Rattle.entries.proofs.ToldApart as entries
 use Rattle.reader.specs.declared.Use.the-variants.{Nothing}
 use Rattle.reader.specs.declared.LookedUp.{LookedUp}
@@ -132,7 +132,7 @@ use Rattle.drawing.specs.Drawing.{charactersOf, byteChoice, fontLine, fontCount
 use Rattle.drawing.specs.Steps.{withCharacter}
 use Rattle.drawing.proofs.Answers as drawing
 use Rattle.drawing.proofs.DrawingLaws as drawings
-use Rattle.twolines.specs.TwoLines.{verticalOf, verticalBy, TwoLines, bothCounts, drawLines, linesTold, linesCounts, linesOutput}
+use Rattle.twolines.specs.TwoLines.{verticalOf, fontVertical, TwoLines, bothCounts, drawLines, linesTold, linesCounts, linesOutput}
 use Rattle.twolines.proofs.Answers as line-answers
 use Rattle.twolines.proofs.TableLaws as line-rows
 use Rattle.twolines.proofs.Bytes as line-bytes
@@ -1038,8 +1038,8 @@ module _ (size : ℕ) (s control upper lower : List ℕ) (room : ℕ) where
   draw-stacked-wiped = wiping.lines-wiped linesDrawn room
 
   -- "Closed up as the font says": the vertical layout is that of the font's Full_Layout.
-  vertical-layout-is-the-fonts : (h : Header) (es : List Entry) → reading s ≡ says h es → verticalBy (reading s) ≡ verticalOf (h .«full_layout»)
-  vertical-layout-is-the-fonts h es e = ap verticalBy e
+  vertical-layout-is-the-fonts : (h : Header) (es : List Entry) → reading s ≡ says h es → fontVertical (reading s) ≡ verticalOf (h .«full_layout»)
+  vertical-layout-is-the-fonts h es e = ap fontVertical e
 
   -- "Output is each row, then LF": of two texts that are drawn,
   module _ (h : Header) (es : List Entry) (cs : List Command) (k : ℕ) (say : BothFilesSay h es cs k) (fit : BothLinesFit h es cs k) where
@@ -1100,8 +1100,8 @@ look-up-of-a-font : (s : List ℕ) (c : Code) (u : LookedUp) → lookUpTold s c 
 look-up-of-a-font = look-ups.looked-exactly
 
 -- "so does `find_in` over a lent index": of its first entries.
-look-up-in-an-index : (es : List Entry) (count : ℕ) (c : Code) (u : LookedUp) → findTold es count c ≡ entryTells u ↔ lookedUp c (take count es) ≡ u
-unfolding findTold
+look-up-in-an-index : (es : List Entry) (count : ℕ) (c : Code) (u : LookedUp) → foundTold es count c ≡ entryTells u ↔ lookedUp c (take count es) ≡ u
+unfolding foundTold
 look-up-in-an-index es count c u = (entries.entry-apart (lookedUp c (take count es)) u, λ e. ap entryTells e)
 
 -- "Drawing then returns how many text bytes are in the second and in the third group, by the definition of look-up": whatever gives the characters, and by
@@ -1494,7 +1494,7 @@ module _ (s : List ℕ) where
   -- Find and remove: "20, 17 (code -1), 22", each at 0.
   module _ (code : ℕ) where
     abbrev Finds : FindAnswer → Type 0
-    Finds a = calls.findTold (heads.meaning s) code ≡ a
+    Finds a = calls.foundTold (heads.meaning s) code ≡ a
 
     refusal-20-of-pack-find : (p : ℕ) → Finds (find-is.Refused (refusal damagedPack p)) ↔ ((p ≡ 0) × (heads.meaning s ≡ heads.damaged))
     refusal-20-of-pack-find = pack-rows.find-20 s code
