@@ -46,7 +46,7 @@ use Rattle.source.specs.Source.{Source, packSource}
 use Rattle.source.specs.Counting.{countsOf}
 use Rattle.source.proofs.CountLaws.{few-replaced}
 use Rattle.drawing.specs.declared.DrawAnswer.{DrawAnswer}
-use Rattle.drawing.specs.Drawing.{textCodes, lineOf, unlined, linedText, linedFrom, withCounts, linedAnswer}
+use Rattle.drawing.specs.Drawing.{textCodes, lineOf, draws, refuses, unlined, linedText, linedRead, linedFrom, withCounts, linedAnswer}
 use Rattle.drawing.proofs.DrawingLaws.{as-many}
 use Rattle.packdrawing.specs.PackDrawing.{packMode, packBy, packOf, packLined}
 use Rattle.capi.specs.Numbers.{RefusalFits, ValuesFit, PlaceFits}
@@ -166,7 +166,7 @@ module _ (y : Mode) (h : ℕ) (source : Source) (control text : List ℕ) (room 
       go (flc.refuses r) e = control-fits control r e
       go (flc.reads cs k) e = tested (ltb maxText (length text)) refl
         where
-          tested : (b : Bool) → ltb maxText (length text) ≡ b → DrawFits (linedAnswer (cond b (unlined (refusal textTooLong 0)) (linedText y h source (textCodes cs k text))) room)
+          tested : (b : Bool) → ltb maxText (length text) ≡ b → DrawFits (linedAnswer (linedRead y h source (cond b (refuses (refusal textTooLong 0)) (draws (textCodes cs k text)))) room)
           tested true q = known textTooLong (omega arith) (omega arith)
           tested false q = put-fits-in (textCodes cs k text) (omega (arith, as-many cs k text, ltb-false maxText (length text) q))
 
