@@ -1,12 +1,12 @@
--- `evidence_stacks::packs::write_bytes` is safe and ends.
+-- `asking_packs::packs::write_bytes` is safe and ends.
 -- Assumes nothing.
 use mathlib.Core.Path.{_≡_, refl, _∙_}
 use Prim.Native.Nat.{_-_}
 use native.Mathlib.Omega.{arith}
 use lib.ListN.{length}
 use borrow.Author.Needs.{needs}
-use Rattle.evidence_stacks.proofs.packs.write_bytes.Statement.{statement}
-use Rattle.evidence_stacks.proofs.packs.write_bytes.Tie as tie
+use Rattle.asking_packs.proofs.packs.write_bytes.Statement.{statement}
+use Rattle.asking_packs.proofs.packs.write_bytes.Tie as tie
 
 abbrev Inv-loop : tie.InvT-loop
 Inv-loop pack₀ t at₀ pack at = length pack ≡ length pack₀

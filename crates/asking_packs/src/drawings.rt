@@ -69,7 +69,7 @@ fn by_font(font: &[u8], control: &[u8], t: &[u8], size: usize, room: usize)
 }
 
 // The words are a layout, a direction, a control file, a scratch's size and an output's room; the rest of the line is the text.
-pub(crate) fn show_by_pack(pack: &[u8], words: &[u8]) {
+pub fn show_by_pack(pack: &[u8], words: &[u8]) {
     let mut buffer = [0u8; 16385];
     let second = behind(words);
     let third = behind(second);
@@ -91,7 +91,7 @@ pub(crate) fn show_by_pack(pack: &[u8], words: &[u8]) {
 }
 
 // The words are a control file, a scratch's size and an output's room; the rest of the line is the text.
-pub(crate) fn show_by_font(font: &[u8], words: &[u8]) {
+pub fn show_by_font(font: &[u8], words: &[u8]) {
     let mut buffer = [0u8; 16385];
     let n = load(word_of(words), &mut buffer);
     let second = behind(words);

@@ -1,10 +1,10 @@
--- `evidence_stacks::packs::used_length` is safe and ends.
+-- `asking_packs::packs::used_length` is safe and ends.
 -- Assumes nothing.
 use Prim.Native.Nat.{_≤_}
 use native.Mathlib.Omega.{arith}
 use lib.ListN.{length}
-use Rattle.evidence_stacks.proofs.packs.used_length.Statement.{statement}
-use Rattle.evidence_stacks.proofs.packs.used_length.Tie as tie
+use Rattle.asking_packs.proofs.packs.used_length.Statement.{statement}
+use Rattle.asking_packs.proofs.packs.used_length.Tie as tie
 
 abbrev Inv-loop : tie.InvT-loop
 Inv-loop pack n₀ n = n ≤ length pack

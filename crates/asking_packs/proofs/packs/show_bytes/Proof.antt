@@ -1,9 +1,9 @@
--- `evidence_stacks::packs::show_bytes` is safe and ends.
+-- `asking_packs::packs::show_bytes` is safe and ends.
 -- Assumes nothing.
 use Prim.Native.Nat.{_-_}
 use native.Mathlib.Omega.{arith}
-use Rattle.evidence_stacks.proofs.packs.show_bytes.Statement.{statement}
-use Rattle.evidence_stacks.proofs.packs.show_bytes.Tie as tie
+use Rattle.asking_packs.proofs.packs.show_bytes.Statement.{statement}
+use Rattle.asking_packs.proofs.packs.show_bytes.Tie as tie
 
 abbrev Inv-loop : tie.InvT-loop
 Inv-loop pack n i₀ i = Unit {0}

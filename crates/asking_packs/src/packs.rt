@@ -172,7 +172,7 @@ fn change(name: &[u8], words: &[u8], pack: &mut [u8]) {
 }
 
 // The first word names the step.
-pub(crate) fn show_step(words: &[u8], pack: &mut [u8]) {
+pub fn show_step(words: &[u8], pack: &mut [u8]) {
     let name = word_of(words);
     let rest = behind(words);
     if starts_with(name, b"check") {
