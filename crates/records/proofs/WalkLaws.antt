@@ -46,6 +46,33 @@ pub record Next (f : Head) (s : List ℕ) (at : ℕ) (live : Bool) (code width s
   pub some : 0 < size
   pub inside : at ≤ length s → at + size ≤ length s
 
+-- What is met where the live record of a code is wanted, and where a free one of a width is.
+abbrev pub placeOf : Met → Place
+placeOf (At at width) = place.At at width
+placeOf (End at) = place.Nowhere
+
+pub met-place : (f : Head) (code at : ℕ) (rs : List (List ℕ)) → placeOf (metIn f (Live code) at rs) ≡ placeIn f code at rs
+unfolding metIn placeIn isLiveOf
+met-place f code at [] = refl
+met-place f code at (r ∷ rs) = go (isLive r && eqb (codeIn r) code) (met-place f code (at + length r) rs)
+  where
+    go : (b : Bool) → placeOf (metIn f (Live code) (at + length r) rs) ≡ placeIn f code (at + length r) rs → placeOf (cond b (At at (widthIn f r)) (metIn f (Live code) (at + length r) rs)) ≡ cond b (place.At at (widthIn f r)) (placeIn f code (at + length r) rs)
+    go true e = refl
+    go false e = e
+
+abbrev pub spotOf : Met → Spot
+spotOf (At at width) = spot.Free at
+spotOf (End at) = spot.Tail at
+
+pub met-spot : (f : Head) (width at : ℕ) (rs : List (List ℕ)) → spotOf (metIn f (Free width) at rs) ≡ spotIn f width at rs
+unfolding metIn spotIn isFreeOf
+met-spot f width at [] = refl
+met-spot f width at (r ∷ rs) = go (not (isLive r) && eqb (widthIn f r) width) (met-spot f width (at + length r) rs)
+  where
+    go : (b : Bool) → spotOf (metIn f (Free width) (at + length r) rs) ≡ spotIn f width (at + length r) rs → spotOf (cond b (At at (widthIn f r)) (metIn f (Free width) (at + length r) rs)) ≡ cond b (spot.Free at) (spotIn f width (at + length r) rs)
+    go true e = refl
+    go false e = e
+
 module _ (f : Head) (s : List ℕ) (at : ℕ) where
   pub next-at : (live : Bool) (code width size : ℕ) → scanned.Record live code width size ≡ scanOf f (take (length s - at) (drop at s)) → Next f s at live code width size
   next-at live code width size e =
@@ -108,6 +135,13 @@ module _ (f : Head) (s : List ℕ) (at : ℕ) where
     unfolding more
     met-next wanted e = met-step wanted ∙ ap (λ (b : Bool). cond b (At at width) (metIn f wanted (at + size) more)) e
 
+    -- so the search for the live record of a code
+    pub place-here : (code : ℕ) → (live && eqb c code) ≡ true → placeIn f code at (recordsAt f s at) ≡ place.At at width
+    place-here code e = sym (met-place f code at (recordsAt f s at)) ∙ ap placeOf (met-here (Live code) e)
+
+    pub place-next : (code : ℕ) → (live && eqb c code) ≡ false → placeIn f code at (recordsAt f s at) ≡ placeIn f code (at + size) (recordsAt f s (at + size))
+    place-next code e = sym (met-place f code at (recordsAt f s at)) ∙ ap placeOf (met-next (Live code) e) ∙ met-place f code (at + size) (recordsAt f s (at + size))
+
     -- The count of the live records, if all are good.
     pub counted-next : (n : ℕ) → counted n (listing f (drop at s)) ≡ counted (n + cond live 1 0) (listing f (drop (at + size) s))
     unfolding counted liveCount r more
@@ -136,6 +170,9 @@ module _ (f : Head) (s : List ℕ) (at : ℕ) where
   pub met-none : (wanted : Wanted) (b : Bool) → listing f (drop at s) ≡ ends b → metIn f wanted at (recordsAt f s at) ≡ End at
   unfolding metIn
   met-none wanted b e = ap (λ (x : Listing). metIn f wanted at (x .records)) e
+
+  pub place-none : (code : ℕ) (b : Bool) → listing f (drop at s) ≡ ends b → placeIn f code at (recordsAt f s at) ≡ place.Nowhere
+  place-none code b e = sym (met-place f code at (recordsAt f s at)) ∙ ap placeOf (met-none (Live code) b e)
 
   pub twice-none : (b : Bool) → listing f (drop at s) ≡ ends b → noneTwice (recordsAt f s at) ≡ true
   unfolding noneTwice
@@ -178,33 +215,6 @@ module _ (x : Listing) where
   pub verdict-twice : (n : ℕ) → Countable n x → noneTwice (x .records) ≡ false → Broken ≡ verdict x
   unfolding verdict
   verdict-twice n k e = sym (rw (k .whole, e))
-
--- What is met where the live record of a code is wanted, and where a free one of a width is.
-abbrev pub placeOf : Met → Place
-placeOf (At at width) = place.At at width
-placeOf (End at) = place.Nowhere
-
-pub met-place : (f : Head) (code at : ℕ) (rs : List (List ℕ)) → placeOf (metIn f (Live code) at rs) ≡ placeIn f code at rs
-unfolding metIn placeIn isLiveOf
-met-place f code at [] = refl
-met-place f code at (r ∷ rs) = go (isLive r && eqb (codeIn r) code) (met-place f code (at + length r) rs)
-  where
-    go : (b : Bool) → placeOf (metIn f (Live code) (at + length r) rs) ≡ placeIn f code (at + length r) rs → placeOf (cond b (At at (widthIn f r)) (metIn f (Live code) (at + length r) rs)) ≡ cond b (place.At at (widthIn f r)) (placeIn f code (at + length r) rs)
-    go true e = refl
-    go false e = e
-
-abbrev pub spotOf : Met → Spot
-spotOf (At at width) = spot.Free at
-spotOf (End at) = spot.Tail at
-
-pub met-spot : (f : Head) (width at : ℕ) (rs : List (List ℕ)) → spotOf (metIn f (Free width) at rs) ≡ spotIn f width at rs
-unfolding metIn spotIn isFreeOf
-met-spot f width at [] = refl
-met-spot f width at (r ∷ rs) = go (not (isLive r) && eqb (widthIn f r) width) (met-spot f width (at + length r) rs)
-  where
-    go : (b : Bool) → spotOf (metIn f (Free width) (at + length r) rs) ≡ spotIn f width (at + length r) rs → spotOf (cond b (At at (widthIn f r)) (metIn f (Free width) (at + length r) rs)) ≡ cond b (spot.Free at) (spotIn f width (at + length r) rs)
-    go true e = refl
-    go false e = e
 
 -- A place is found exactly where there is such a live record.
 pub place-has : (f : Head) (code at : ℕ) (rs : List (List ℕ)) → isPlace (placeIn f code at rs) ≡ hasLive code rs
