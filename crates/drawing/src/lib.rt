@@ -90,11 +90,11 @@ pub fn mode_of(header: Header) -> Mode
 
 // Joins the character that was chosen for a code to the line, n wide, in the area; answers the new width. Its rows start at the places found. A line that
 // would be wider than the limit leaves the area as it was.
-pub fn draw_chosen(
+pub fn draw_chosen<'a>(
     area: &mut [u8],
     chosen: Chosen,
-    found: &[usize],
-    rows: &[usize],
+    found: &'a [usize],
+    rows: &'a [usize],
     n: usize,
     limit: usize,
     mode: Mode,

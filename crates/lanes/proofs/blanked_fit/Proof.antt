@@ -1,23 +1,23 @@
--- `lanes::blanked_fitting` meets its contract. The invariant: `best` is the fitting overlap of the lanes passed.
+-- `lanes::blanked_fit` meets its contract. The invariant: what was found is so for the lanes passed.
 -- Assumes nothing.
-use mathlib.Core.Path.{_≡_, _∙_, sym, subst}
+use mathlib.Core.Logic.{⊎-elim}
+use mathlib.Core.Path.{_≡_}
 use Prim.Native.Nat.{ℕ, _≤_, _-_, min}
-use native.Mathlib.Numerals.{add-one}
 use native.Mathlib.Omega.{arith}
 use lib.ListN.{length}
 use borrow.Author.Needs.{needs}
 use Rattle.lanes.specs.Blocks.{Cells, laneStart, cellsOf, blankedCells}
-use Rattle.lanes.specs.Overlap.{fitting}
-use Rattle.lanes.proofs.Fitting.{fitting-none, fitting-lane, fitting-le, fitting-less}
-use Rattle.lanes.proofs.blanked_fitting.Statement.{statement}
-use Rattle.lanes.proofs.blanked_fitting.Tie as tie
-use Rattle.lanes.specs.Blanks.{Leading, Trailing}
+use Rattle.lanes.proofs.Fitting.{fitting-le}
+use Rattle.lanes.proofs.Fits.{fitted-none, fitted-zero, fitted-less, fitted-same}
+use Rattle.lanes.proofs.blanked_fit.Statement.{statement}
+use Rattle.lanes.proofs.blanked_fit.Tie as tie
+use Rattle.lanes.specs.Fits.{Fitted}
 
 abbrev Inv-loop : tie.InvT-loop
-Inv-loop first a-starts a second b-starts b h hardblank n m best₀ r₀ best r = (r ≤ h) × (best ≡ fitting r (a .len) (b .len) (blankedCells hardblank (cellsOf first a-starts a)) (blankedCells hardblank (cellsOf second b-starts b)))
+Inv-loop first a-starts a second b-starts b h hardblank n m best₀ lane₀ r₀ best lane r = (r ≤ h) × Fitted r (a .len) (b .len) (blankedCells hardblank (cellsOf first a-starts a)) (blankedCells hardblank (cellsOf second b-starts b)) (record { overlap = best; lane = lane })
 
 abbrev μ-loop : tie.MeasureT-loop
-μ-loop first a-starts a second b-starts b h hardblank n m best₀ r₀ best r = h - r
+μ-loop first a-starts a second b-starts b h hardblank n m best₀ lane₀ r₀ best lane r = h - r
 
 abbrev St : Type 0
 St = tie.Start Inv-loop μ-loop
@@ -44,7 +44,7 @@ second-begins q = start q .pre .1 .1 .begin (q .before .loop .r) (omega arith)
 bound : (q : In) → q .before .loop .best ≤ min (start q .args .a .len) (start q .args .b .len)
 bound q =
     let s = start q in
-    omega (arith, q .before .loop .inv .1, fitting-le (s .args .a .len) (s .args .b .len) (block-of s) (other-of s) (q .before .loop .r))
+    omega (arith, q .before .loop .inv .1 .overlap, fitting-le (s .args .a .len) (s .args .b .len) (block-of s) (other-of s) (q .before .loop .r))
 
 smaller-requires : tie.Need-smaller-requires Inv-loop μ-loop
 smaller-requires c κs = search needs
@@ -52,14 +52,14 @@ smaller-requires c κs = search needs
 loop-holds : tie.Need-loop-holds Inv-loop μ-loop
 loop-holds c =
     let s = c .before .before .before .before .before in
-    (search needs, c .smaller .ensures ∙ sym (fitting-none (s .args .a .len) (s .args .b .len) (block-of s) (other-of s)))
+    (search needs, fitted-none (s .args .a .len) (s .args .b .len) (block-of s) (other-of s) _ (c .smaller .ensures))
 
 returns : tie.Need-returns Inv-loop μ-loop
 returns c =
     let q = c .before in
     let s = start q in
     let l = q .before .loop in
-    omega (arith, l .inv .1, c .if1 .taken, fitting-less (s .args .a .len) (s .args .b .len) (block-of s) (other-of s) (l .r) (s .args .h) (l .inv .0))
+    fitted-zero (s .args .a .len) (s .args .b .len) (block-of s) (other-of s) (l .r) (s .args .h) (l .best) (l .lane) (l .inv .0) (c .if1 .taken) (l .inv .1)
 
 mul-trailing-blanks : tie.Need-mul-trailing-blanks Inv-loop μ-loop
 mul-trailing-blanks c = omega (arith, start (c .before) .pre .1 .0 .lanes)
@@ -92,8 +92,12 @@ leading-blanks-requires c κs =
     let q = c .before .before .before .before .before .before in
     λ k u. start q .pre .1 .1 .cells (q .before .loop .r) k (omega arith) (omega (arith, bound q))
 
+add-if2 : tie.Need-add-if2 Inv-loop μ-loop
+add-if2 c =
+    omega (arith, bound (c .before .before .before .before .before .before .before), c .before .before .before .trailing-blanks .ensures .within, c .leading-blanks .ensures .within)
+
 add-best : tie.Need-add-best Inv-loop μ-loop
-add-best c = omega (arith, bound (c .before .before .before .before .before .before .before), c .before .before .before .trailing-blanks .ensures .within, c .leading-blanks .ensures .within)
+add-best c = add-if2 (c .before)
 
 add-r : tie.Need-add-r Inv-loop μ-loop
 add-r c = omega arith
@@ -103,27 +107,29 @@ loop-less c = omega arith
 
 loop-again : tie.Need-loop-again Inv-loop μ-loop
 loop-again c =
-    let q = c .before .before .before .before .before .before .before in
+    let q = c .before .before .before .before .before .before .before .before in
     let s = start q in
-    let r = q .before .loop .r in
-    let t = c .before .before .before .trailing-blanks in
-    let l = c .leading-blanks in
-    let e = q .before .loop .inv .1 in (
+    let i = q .before .loop in
+    let t = c .before .before .before .before .trailing-blanks in
+    let l = c .before .leading-blanks in
+    let n = s .args .a .len in
+    let m = s .args .b .len in (
       omega arith,
-      rw add-one
-          (sym (fitting-lane (s .args .a .len) (s .args .b .len) (block-of s) (other-of s) r (t .result) (l .result)
-          (subst (λ (x : ℕ). Trailing (block-of s r) (s .args .a .len) x (t .result)) e (t .ensures))
-          (subst (λ (x : ℕ). Leading (other-of s r) (x - t .result) (l .result)) e (l .ensures)))),
+      ⊎-elim
+          (λ w. rw (w .1) (fitted-less n m (block-of s) (other-of s) (i .r) (i .best) (i .lane) (t .result) (l .result) (i .inv .1) (t .ensures) (l .ensures) (w .0 .taken)))
+          (λ w. rw (w .1) (fitted-same n m (block-of s) (other-of s) (i .r) (i .best) (i .lane) (t .result) (l .result) (i .inv .1) (t .ensures) (l .ensures) (omega (arith, w .0 .left))))
+          (c .if2 .came),
     )
 
 returns-2 : tie.Need-returns-2 Inv-loop μ-loop
 returns-2 c =
     let l = c .before .loop in
-    let e : l .r ≡ c .before .before .before .before .before .before .before .args .h = omega arith in
+    let s = c .before .before .before .before .before .before .before in
+    let e : l .r ≡ s .args .h = omega arith in
     rw e at (l .inv .1)
 
-pub blanked-fitting-spec : {M : Type 1} → statement M
-blanked-fitting-spec =
+pub blanked-fit-spec : {M : Type 1} → statement M
+blanked-fit-spec =
     tie.close
     (tie.spec
     Inv-loop
@@ -140,6 +146,7 @@ blanked-fitting-spec =
     add-leading-blanks
     sub-leading-blanks
     leading-blanks-requires
+    add-if2
     add-best
     add-r
     loop-less
