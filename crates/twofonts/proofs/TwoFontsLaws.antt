@@ -37,7 +37,7 @@ use Rattle.source.specs.Source.{Choice, Source, choiceOf, fontSource, choiceOfT
 use Rattle.source.specs.Counting.{one, isStoodIn, isNothing, howMany, countsOf}
 use Rattle.source.proofs.TwoLaws.{either-looked-up}
 use Rattle.source.specs.Steps.{eitherOf}
-use Rattle.drawing.specs.Drawing.{textCodes, withChoice, charactersOf, lineOf, modeOf, Lined, unlined, linedText, linedFrom, linedBy, linedOf, drawLined}
+use Rattle.drawing.specs.Drawing.{textCodes, withChoice, charactersOf, lineOf, modeOf, Lined, unlined, linedText, linedFrom, linedBy, linedOf, drawLined, draws, refuses, linedRead}
 use Rattle.twofonts.specs.Fonts.{Fonts, fonts, unfit, alike, fontsBy, fontsOf}
 use Rattle.twofonts.specs.declared.RequestedOfTwo.{RequestedOfTwo}
 use Rattle.twofonts.specs.declared.RequestedOfTwo.the-variants as row
@@ -228,8 +228,14 @@ pub covered-lined : (s t : List ℕ) (h : Header) (es fs : List Entry) → BothS
 unfolding twoOf linedOf
 covered-lined s t h es fs b control text cs k c x =
     ap₂ (λ (f : Fonts) (r : flc.ControlReading). twoBy s t f r text) (say-fonts s t h es fs b) c ∙
-    ap (λ (l : Lined). cond (ltb maxText (length text)) (unlined (refusal textTooLong 0)) l) (covered-text s t es fs (modeOf h) (h .height) (textCodes cs k text) x) ∙
+    covered (ltb maxText (length text)) ∙
     sym (ap₂ (λ (m : font.FontReading) (r : flc.ControlReading). linedBy s m r text) (b .first) c)
+  where
+    covered : (long : Bool) →
+        linedRead (modeOf h) (h .height) (twoSource s t es fs) (cond long (refuses (refusal textTooLong 0)) (draws (textCodes cs k text))) ≡
+        linedRead (modeOf h) (h .height) (fontSource s es) (cond long (refuses (refusal textTooLong 0)) (draws (textCodes cs k text)))
+    covered true = refl
+    covered false = covered-text s t es fs (modeOf h) (h .height) (textCodes cs k text) x
 
 pub covered-draws : (size : ℕ) (s t : List ℕ) (h : Header) (es fs : List Entry) → BothSay s t h es fs → (control text : List ℕ) (cs : List Command) (k : ℕ) → flc.control control ≡ flc.reads cs k → EachHas es (textCodes cs k text) → twoLined size s t control text ≡ drawLined size s control text
 unfolding twoLined drawLined
