@@ -1494,7 +1494,7 @@ module _ (s : List ℕ) where
   -- Find and remove: "20, 17 (code -1), 22", each at 0.
   module _ (code : ℕ) where
     abbrev Finds : FindAnswer → Type 0
-    Finds a = calls.foundTold (heads.meaning s) code ≡ a
+    Finds a = calls.findTold (heads.meaning s) code ≡ a
 
     refusal-20-of-pack-find : (p : ℕ) → Finds (find-is.Refused (refusal damagedPack p)) ↔ ((p ≡ 0) × (heads.meaning s ≡ heads.damaged))
     refusal-20-of-pack-find = pack-rows.find-20 s code
