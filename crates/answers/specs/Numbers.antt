@@ -53,7 +53,7 @@ controlNumber t = telling (t .refused) (t .number) (t .place) (threeValues 0 (t 
 abbrev pub drawNumber : DrawTold → ℕ
 drawNumber t = telling (t .refused) (t .number) (t .place) (threeValues (t .nothingDrawn) (t .stoodIn) (t .width))
 
--- "How many lines, and Q-2's two counts of the whole text."
+-- 02, Q-4: how many lines, and Q-2's two counts of the whole text.
 abbrev pub wrapNumber : WrapAnswer → ℕ
 wrapNumber (Wrapped lines counts) = threeValues (counts .«nothing_drawn») (counts .«stood_in») lines
 wrapNumber (wrap-is.Refused r) = refusedAt (r .number) (r .place)
@@ -84,7 +84,7 @@ abbrev pub editNumber : EditAnswer → ℕ
 editNumber edit-is.Done = 0
 editNumber (edit-is.Refused r) = refusedAt (r .number) (r .place)
 
--- The check of a drawing, 02, Q-8: 0 accepted, 1 a wrong overlap, 2 a wrong byte, above where that is.
+-- The check of a drawing, 02, Q-8: 0 accepted, 1 a wrong overlap, 2 a wrong byte, in the bits above 32; below them where it is.
 abbrev pub whereWrong : ℕ → ℕ → ℕ
 whereWrong what place = what * valueBound * valueBound + place
 

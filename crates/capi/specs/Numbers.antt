@@ -28,7 +28,7 @@ unfoldable pub joinTaken : ℕ → ℕ → ℕ → ℕ → ℕ → List ℕ → 
 joinTaken layout direction hardblank h n line m character room =
     cond (legalMode layout direction) (joinTold (modeBy layout direction hardblank) h n line m character room) (refusing badShape)
 
--- "A refusal fills every lent writable area with zeros."
+-- A refusal "fills every lent writable area with zeros".
 unfoldable pub joinLeft : ℕ → ℕ → ℕ → ℕ → ℕ → List ℕ → ℕ → List ℕ → ℕ → List ℕ
 joinLeft layout direction hardblank h n line m character room =
     cond (legalMode layout direction) (joinArea (modeBy layout direction hardblank) h n line m character room) (zeros room)
@@ -42,7 +42,7 @@ unfoldable pub stackLeft : ℕ → ℕ → ℕ → ℕ → List ℕ → ℕ → 
 stackLeft layout hardblank n upperWidth upper m lowerWidth lower room =
     cond (ltb maxFullLayout layout) (zeros room) (stackArea (fullVertical layout) hardblank n upperWidth upper m lowerWidth lower room)
 
--- "A layout over 32,767 or a direction other than 0 and 1 is a layout of bad shape, so that 17 keeps its place": controlled smushing without a rule.
+-- A layout over 32,767 or a direction other than 0 and 1 is a layout of bad shape, so that 17 keeps its place: controlled smushing without a rule.
 abbrev pub shapeless : Layout
 shapeless = Smushing (Controlled 0)
 
