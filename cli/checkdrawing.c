@@ -67,7 +67,9 @@ static enum status wrong_overlap(const struct checked *checked, size_t number) {
 
 /* A byte in a sentence. */
 static void show_byte(uint8_t byte) {
-    fprintf(stderr, byte == ' ' ? "a blank" : byte < 32 || byte > 126 ? "\\x%02x" : "%c", byte);
+    char name[BYTE_NAME];
+    name_byte(byte, name);
+    fputs(byte == ' ' ? "a blank" : name, stderr);
 }
 
 /* Shows how many columns a row must have, or, where a number of rows is given, rows and columns of the FIGure. */

@@ -6,6 +6,7 @@
 
 #include "wattleslate.h"
 #include <stdbool.h>
+#include <sys/types.h>
 
 /* Exit statuses. Where several are due the greatest is given. REFUSED is also given for a FIGure that is not the drawing, and, where that is asked for, for a byte that is
  * not in the font. */
@@ -86,6 +87,10 @@ enum step next_text(const struct call *call, size_t number, struct text *text);
 extern const uint8_t built_in_font[];
 extern const size_t built_in_font_length;
 
+/* Opens a file, -1 on failure; and writes all of some bytes into one, false on failure. */
+int open_file(const char *name, int flags, mode_t mode);
+bool write_all(int fd, const uint8_t *bytes, size_t length);
+
 /* Reads a file into an area. Of a file that does not fit, as much as fits is read: who lends a byte more than the library takes lets it refuse. */
 enum status load(struct file *file, const char *name, uint8_t *area, size_t room);
 
@@ -123,6 +128,9 @@ struct drawing draw_line(const struct files *files, const struct text *text);
 
 /* The same with two fonts. */
 struct drawing draw_two(const struct files *files, const struct text *text);
+
+/* What the library answered of a text in one line, and the rows that it drew, of a height. */
+struct drawing drawn_line(uint64_t answer, const uint8_t *rows, size_t height);
 
 /* Whether the library draws with two fonts that it has read alone; what keeps it from that is told. */
 enum status check_two(const struct files *files);
@@ -183,9 +191,9 @@ enum status letter_refused(const struct file *pack, int32_t code, uint64_t answe
 /* A code as a font's tag writes it: decimal, octal behind 0, hexadecimal behind 0x or 0X, with a minus or without one. */
 bool code_of(const uint8_t *word, size_t length, int32_t *code);
 
-/* A hardblank for messages: the byte where that can be shown, else \xNN. */
-#define HARDBLANK_NAME 5
-void name_hardblank(uint8_t hardblank, char name[HARDBLANK_NAME]);
+/* A byte for messages: itself where it can be seen, else \xNN. A byte over 127 alone is no character of UTF-8. */
+#define BYTE_NAME 5
+void name_byte(uint8_t byte, char name[BYTE_NAME]);
 
 /* A code for messages: its number, and its character where that can be shown. */
 #define CODE_NAME 20

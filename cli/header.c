@@ -3,19 +3,13 @@
 
 /* "A number is an optional minus and 1 to 10 decimal digits within signed 32 bits." */
 static bool number_of(const uint8_t *word, size_t length, int64_t *value) {
-    size_t first = length > 0 && word[0] == '-' ? 1 : 0;
-    *value = 0;
-    if (length < first + 1 || length > first + 10) {
+    bool minus = length > 0 && word[0] == '-';
+    size_t first = minus ? 1 : 0, number;
+    if (length > first + 10 || !digits_upto(word + first, length - first, (size_t)INT32_MAX + first, &number)) {
         return false;
     }
-    for (size_t at = first; at < length; at++) {
-        if (word[at] < '0' || word[at] > '9') {
-            return false;
-        }
-        *value = *value * 10 + (word[at] - '0');
-    }
-    *value = first == 1 ? -*value : *value;
-    return *value >= INT32_MIN && *value <= INT32_MAX;
+    *value = minus ? -(int64_t)number : (int64_t)number;
+    return true;
 }
 
 bool header_number(const struct file *font, enum parameter parameter, int64_t *value) {

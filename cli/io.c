@@ -39,11 +39,28 @@ static ssize_t read_all(int fd, uint8_t *area, size_t room) {
     return (ssize_t)length;
 }
 
-enum status load(struct file *file, const char *name, uint8_t *area, size_t room) {
+int open_file(const char *name, int flags, mode_t mode) {
     int fd;
     do {
-        fd = open(name, O_RDONLY | O_NOCTTY);
+        fd = open(name, flags | O_NOCTTY, mode);
     } while (fd < 0 && errno == EINTR);
+    return fd;
+}
+
+bool write_all(int fd, const uint8_t *bytes, size_t length) {
+    size_t done = 0;
+    while (done < length) {
+        ssize_t wrote = write(fd, bytes + done, length - done);
+        if (wrote < 0 && errno != EINTR) {
+            return false;
+        }
+        done += wrote < 0 ? 0 : (size_t)wrote;
+    }
+    return true;
+}
+
+enum status load(struct file *file, const char *name, uint8_t *area, size_t room) {
+    int fd = open_file(name, O_RDONLY, 0);
     if (fd < 0) {
         return io_failed(name, "read");
     }
@@ -113,15 +130,11 @@ static enum status output_failed(void) {
 }
 
 enum status put(const uint8_t *bytes, size_t length) {
-    size_t done = 0;
-    while (output != BROKEN && done < length) {
-        ssize_t wrote = write(STDOUT_FILENO, bytes + done, length - done);
-        if (wrote >= 0) {
-            output = USED;
-            done += (size_t)wrote;
-        } else if (errno != EINTR) {
+    if (output != BROKEN && length > 0) {
+        if (!write_all(STDOUT_FILENO, bytes, length)) {
             return output_failed();
         }
+        output = USED;
     }
     return output == BROKEN ? BAD_FILE : GOOD;
 }

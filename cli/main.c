@@ -111,6 +111,11 @@ enum status bad_use(const char *first, const char *second, const char *third) {
     return BAD_USE;
 }
 
+struct drawing drawn_line(uint64_t answer, const uint8_t *rows, size_t height) {
+    bool refused = wattleslate_number(answer) != WATTLESLATE_NOT_REFUSED;
+    return (struct drawing){answer, rows, refused ? 0 : WATTLESLATE_DRAWN(height, wattleslate_width(answer))};
+}
+
 struct drawing draw_line(const struct files *files, const struct text *text) {
     if (files->two) {
         return draw_two(files, text);
@@ -118,8 +123,7 @@ struct drawing draw_line(const struct files *files, const struct text *text) {
     static uint8_t scratch[WATTLESLATE_SCRATCH], out[WATTLESLATE_MAX_DRAWN];
     uint64_t answer = wattleslate_draw(files->font.bytes, files->font.length, files->control.bytes, files->control.length, text->bytes,
                                        text->length, scratch, sizeof scratch, out, sizeof out);
-    bool refused = wattleslate_number(answer) != WATTLESLATE_NOT_REFUSED;
-    return (struct drawing){answer, out, refused ? 0 : WATTLESLATE_DRAWN(files->height, wattleslate_width(answer))};
+    return drawn_line(answer, out, files->height);
 }
 
 /* Writes the rows of a text that was drawn, or says why it was refused. */
@@ -175,12 +179,12 @@ enum step next_text(const struct call *call, size_t number, struct text *text) {
 }
 
 bool digits_upto(const uint8_t *digits, size_t length, size_t most, size_t *value) {
-    size_t number = 0;
+    uint64_t number = 0;
     for (size_t at = 0; at < length; at++) {
         if (digits[at] < '0' || digits[at] > '9') {
             return false;
         }
-        number = number * 10 + (size_t)(digits[at] - '0');
+        number = number * 10 + (uint64_t)(digits[at] - '0');
         if (number > most) {
             return false;
         }
@@ -188,7 +192,7 @@ bool digits_upto(const uint8_t *digits, size_t length, size_t most, size_t *valu
     if (length == 0) {
         return false;
     }
-    *value = number;
+    *value = (size_t)number;
     return true;
 }
 

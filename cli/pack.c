@@ -62,10 +62,10 @@ static struct sums record_sums(const struct file *pack) {
 }
 
 static enum status list_whole(const struct file *pack, uint64_t answer) {
-    char line[160], hardblank[HARDBLANK_NAME];
+    char line[160], hardblank[BYTE_NAME];
     struct sums sums = record_sums(pack);
     size_t used = WATTLESLATE_PACK_HEAD + sums.live;
-    name_hardblank(pack->bytes[6], hardblank);
+    name_byte(pack->bytes[6], hardblank);
     (void)snprintf(line, sizeof line, "height %u, hardblank %s, letters %u, bytes %zu: %zu used, %zu in free records, %zu behind the last record\n",
                    (unsigned)wattleslate_height(answer), hardblank, (unsigned)wattleslate_live(answer), pack->length, used, sums.free,
                    pack->length - used - sums.free);

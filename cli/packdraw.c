@@ -51,8 +51,7 @@ static struct drawing draw_from(const struct from_pack *from, const struct text 
     static uint8_t scratch[WATTLESLATE_SCRATCH], out[WATTLESLATE_MAX_DRAWN];
     uint64_t answer = wattleslate_draw_pack(from->pack.bytes, from->pack.length, from->layout, from->direction, from->control.bytes, from->control.length,
                                             text->bytes, text->length, scratch, sizeof scratch, out, sizeof out);
-    bool refused = wattleslate_number(answer) != WATTLESLATE_NOT_REFUSED;
-    return (struct drawing){answer, out, refused ? 0 : WATTLESLATE_DRAWN(from->height, wattleslate_width(answer))};
+    return drawn_line(answer, out, from->height);
 }
 
 enum status pack_draw(const struct call *call) {

@@ -37,23 +37,7 @@ static void let_signals(void) {
 
 /* Makes a file that is not there yet. */
 static int make_file(const char *path, mode_t mode) {
-    int fd;
-    do {
-        fd = open(path, O_WRONLY | O_CREAT | O_EXCL | O_NOCTTY, mode);
-    } while (fd < 0 && errno == EINTR);
-    return fd;
-}
-
-static bool write_all(int fd, const uint8_t *bytes, size_t length) {
-    size_t done = 0;
-    while (done < length) {
-        ssize_t wrote = write(fd, bytes + done, length - done);
-        if (wrote < 0 && errno != EINTR) {
-            return false;
-        }
-        done += wrote < 0 ? 0 : (size_t)wrote;
-    }
-    return true;
+    return open_file(path, O_WRONLY | O_CREAT | O_EXCL, mode);
 }
 
 static bool sync_file(int fd) {

@@ -102,16 +102,16 @@ enum status file_refused(const struct file *file, uint64_t answer) {
     return REFUSED;
 }
 
-void name_hardblank(uint8_t hardblank, char name[HARDBLANK_NAME]) {
-    (void)snprintf(name, HARDBLANK_NAME, hardblank > 32 && hardblank < 127 ? "%c" : "\\x%02x", hardblank);
+void name_byte(uint8_t byte, char name[BYTE_NAME]) {
+    (void)snprintf(name, BYTE_NAME, byte > 32 && byte < 127 ? "%c" : "\\x%02x", byte);
 }
 
 enum status fonts_refused(const struct files *files, uint64_t answer) {
-    char one[HARDBLANK_NAME], other[HARDBLANK_NAME];
+    char one[BYTE_NAME], other[BYTE_NAME];
     uint32_t height = wattleslate_height(wattleslate_check_font(files->second.bytes, files->second.length));
     bool heights = files->height != height, hardblanks = files->font.bytes[5] != files->second.bytes[5];
-    name_hardblank(files->font.bytes[5], one);
-    name_hardblank(files->second.bytes[5], other);
+    name_byte(files->font.bytes[5], one);
+    name_byte(files->second.bytes[5], other);
     show_string(files->font.name);
     fputs(" and ", stderr);
     show_string(files->second.name);
@@ -140,9 +140,9 @@ enum status text_refused(const struct text *text, uint64_t answer) {
     show_text(text);
     fprintf(stderr, ": %s (refusal %d", refusal.sentence, (int)wattleslate_number(answer));
     if (refusal.placed && place < text->length) {
-        /* A byte over 127 alone is no character of UTF-8. */
-        uint8_t byte = text->bytes[place];
-        fprintf(stderr, byte < 32 || byte > 126 ? " at byte %zu: \\x%02x" : " at byte %zu: %c", place, byte);
+        char byte[BYTE_NAME];
+        name_byte(text->bytes[place], byte);
+        fprintf(stderr, " at byte %zu: %s", place, byte);
     }
     fputs(")\n", stderr);
     return REFUSED;

@@ -6,8 +6,7 @@ struct drawing draw_two(const struct files *files, const struct text *text) {
     const struct file *first = &files->font, *second = &files->second, *control = &files->control;
     uint64_t answer = wattleslate_draw_two(first->bytes, first->length, second->bytes, second->length, control->bytes, control->length, text->bytes,
                                            text->length, scratch, sizeof scratch, out, sizeof out);
-    bool refused = wattleslate_number(answer) != WATTLESLATE_NOT_REFUSED;
-    return (struct drawing){answer, out, refused ? 0 : WATTLESLATE_DRAWN(files->height, wattleslate_width(answer))};
+    return drawn_line(answer, out, files->height);
 }
 
 /* An empty text shows it: what differs in two fonts is refused before the control file is read. */

@@ -21,20 +21,21 @@ static uint64_t refused(uint64_t number, uint64_t place) {
     return number * 281474976710656u + place;
 }
 
-static void drawn(uint64_t nothing_drawn, uint64_t stood_in, uint64_t width) {
-    uint64_t answer = values(nothing_drawn, stood_in, width);
+/* The answer of a drawing, whose counts stand above its last value. */
+static uint64_t counted(uint64_t nothing_drawn, uint64_t stood_in, uint64_t last) {
+    uint64_t answer = values(nothing_drawn, stood_in, last);
     same("number", wattleslate_number(answer), 0);
     same("nothing drawn", wattleslate_nothing_drawn(answer), nothing_drawn);
     same("stood in", wattleslate_stood_in(answer), stood_in);
-    same("width", wattleslate_width(answer), width);
+    return answer;
+}
+
+static void drawn(uint64_t nothing_drawn, uint64_t stood_in, uint64_t width) {
+    same("width", wattleslate_width(counted(nothing_drawn, stood_in, width)), width);
 }
 
 static void wrapped(uint64_t nothing_drawn, uint64_t stood_in, uint64_t lines) {
-    uint64_t answer = values(nothing_drawn, stood_in, lines);
-    same("number", wattleslate_number(answer), 0);
-    same("nothing drawn", wattleslate_nothing_drawn(answer), nothing_drawn);
-    same("stood in", wattleslate_stood_in(answer), stood_in);
-    same("lines", wattleslate_lines(answer), lines);
+    same("lines", wattleslate_lines(counted(nothing_drawn, stood_in, lines)), lines);
 }
 
 /* The sizes that wrapping speaks of, by hand: 1,024 lines of 32 rows of 199 columns and an LF. */

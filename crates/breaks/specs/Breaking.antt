@@ -14,7 +14,7 @@ unfoldable pub largest : (ℕ → Bool) → ℕ → ℕ
 largest p zero = 0
 largest p (suc n) = cond (p (suc n)) (suc n) (largest p n)
 
--- The k bytes from b on fit: "whose drawing is at most the limit wide".
+-- The k bytes from b on fit: their drawing is at most the limit wide.
 abbrev pub fits : (ℕ → ℕ → ℕ) → ℕ → ℕ → ℕ → Bool
 fits wide limit b k = leb (wide b (b + k)) limit
 

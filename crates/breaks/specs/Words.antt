@@ -1,4 +1,4 @@
--- Words of a text: document 02, Q-4. "Words are maximal runs of bytes other than 32."
+-- Words of a text: document 02, Q-4. A word is a maximal run of bytes other than 32.
 -- Assumes nothing.
 use Prim.Native.Nat.{ℕ, _+_, _-_}
 use mathlib.Core.Bool.{Bool, not, _&&_, _||_}

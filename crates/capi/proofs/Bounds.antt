@@ -1,30 +1,24 @@
 -- Every number, place and value of an answer has room in its 64 bits, so that none of them is lost.
 -- Assumes nothing.
-use mathlib.Core.Path.{_≡_, refl, sym, ap, _∙_, subst}
+use mathlib.Core.Path.{_≡_, refl, sym, ap, subst}
 use mathlib.Core.List.{List}
 use mathlib.Core.Logic.{⊎-elim}
-use Prim.Native.Nat.{ℕ, _*_, _/_, _%_, _≤_}
+use Prim.Native.Nat.{ℕ, _≤_, _<_}
 use native.Mathlib.Omega.{arith}
-use lib.ListN.{length}
 use Rattle.ground.specs.Limits.{maxFontLength}
-use Rattle.ground.specs.Refusals.{stackTooHigh, wrongLength}
+use Rattle.ground.specs.Refusals.{stackTooHigh}
 use Rattle.ground.specs.declared.refusals.Refusal.{Refusal}
-use Rattle.ground.proofs.Tests.{clash}
 use Rattle.subchars.specs.declared.Mode.{Mode}
 use Rattle.subchars.specs.declared.VerticalLayout.{VerticalLayout}
-use Rattle.header.specs.declared.Header.{Header}
-use Rattle.font.specs.Font.{reading, refuses}
+use Rattle.font.specs.Font.{FontReading, says, refuses, reading}
 use Rattle.font.proofs.ReadingLaws.{font-refusal, font-read}
-use Rattle.reader.specs.declared.FontAnswer.the-variants as font-is
 use Rattle.reader.specs.Reader.{fontAnswer}
-use Rattle.reader.proofs.ReadLaws.{read-says, unread-refuses}
-use Rattle.flc.specs.declared.ControlAnswer.the-variants as control-is
 use Rattle.flc.specs.Control as flc
 use Rattle.flc.specs.Lists as lists
 use Rattle.flc.proofs.RefusalLaws.{control-refusal}
 use Rattle.flc.proofs.CountLaws.{control-few}
 use Rattle.drawing.specs.declared.DrawAnswer.{DrawAnswer}
-use Rattle.drawing.specs.declared.DrawAnswer.the-variants as draw-is
+use Rattle.join.specs.declared.JoinAnswer.{JoinAnswer}
 use Rattle.join.specs.declared.JoinAnswer.the-variants as join-is
 use Rattle.wattleslate.specs.DrawCall.{drawTells, drawTold}
 use Rattle.join.specs.JoinCall.{JoinTold, joinTells, joinTold}
@@ -35,27 +29,19 @@ use Rattle.drawing.specs.Drawing.{textCodes, modeOf}
 use Rattle.drawing.proofs.DrawingLaws.{as-many}
 use Rattle.drawing.proofs.Answers.{DrawsTo, scratch-small, font-refused, control-refused, text-too-long, line-too-wide, output-small, draws, answer, one-of}
 use Rattle.join.proofs.Answers.{refused-tells, joined-within}
+use Rattle.stack.specs.declared.StackAnswer.{StackAnswer}
 use Rattle.stack.specs.declared.StackAnswer.the-variants as stack-is
 use Rattle.stack.specs.StackCall.{StackTold, stackTells, stackTold}
 use Rattle.stack.proofs.Answers as stacks
 use Rattle.twolines.proofs.Answers as two-lines
 use Rattle.wrapping.specs.declared.WrapAnswer.{WrapAnswer}
-use Rattle.wrapping.specs.declared.WrapAnswer.the-variants as wrap-is
 use Rattle.wrapping.proofs.Answers as wraps
 use Rattle.wrapping.proofs.TextLines as text-lines
-use Rattle.capi.specs.Numbers.{valueBound, placeBound, refusedAt, threeValues, RefusalFits, ValuesFit}
-
--- A caller that takes an answer apart finds what was put in: a refusal's number, which is not 0, and its place;
-pub refusal-apart : (number place : ℕ) → RefusalFits number place → (refusedAt number place / placeBound ≡ number) × (1 ≤ number) × (refusedAt number place % placeBound ≡ place)
-refusal-apart number place p = (omega (arith, p .place-in-48), p .not-0, omega (arith, p .place-in-48))
-
--- or 0, and the three values.
-pub values-apart : (a b c : ℕ) → ValuesFit a b c →
-    (threeValues a b c / placeBound ≡ 0) × (threeValues a b c / (valueBound * valueBound) ≡ a) × (threeValues a b c / valueBound % valueBound ≡ b) × (threeValues a b c % valueBound ≡ c)
-values-apart a b c p = (omega arith, omega arith, omega arith, omega arith)
+use Rattle.answers.specs.Numbers.{valueBound}
+use Rattle.answers.specs.Fits.{RefusalFits, ValuesFit, FontFits, ControlFits, DrawFits, WrapFits, JoinFits, StackFits}
 
 -- A number of the table and a place in a file have room.
-pub table-fits : (number place : ℕ) → 1 ≤ number → number ≤ wrongLength → place ≤ maxFontLength → RefusalFits number place
+pub table-fits : (number place : ℕ) → 1 ≤ number → number < valueBound → place ≤ maxFontLength → RefusalFits number place
 table-fits number place l m n = record { not-0 = l; number-in-16 = omega arith; place-in-48 = omega arith }
 
 -- A font's: its Height is at most 32, and it has at most 512 characters.
@@ -63,43 +49,30 @@ module _ (s : List ℕ) where
   pub font-fits : (r : Refusal) → reading s ≡ refuses r → RefusalFits (r .number) (r .place)
   font-fits r e = let n = font-refusal s r e in table-fits _ _ (omega (arith, n .0)) (omega (arith, n .1)) (omega (arith, n .3))
 
-  pub font-refusal-fits : (r : Refusal) → font-is.Refused r ≡ fontAnswer (reading s) → RefusalFits (r .number) (r .place)
-  font-refusal-fits r e = font-fits r (unread-refuses (reading s) r e)
-
-  pub font-values-fit : (h : Header) (n : ℕ) → font-is.Read h n ≡ fontAnswer (reading s) → ValuesFit 0 (h .height) n
-  font-values-fit h n e =
-      let said = read-says (reading s) h n e in
-      let is = font-read s h _ (said .is) in
-      record { a-in-16 = omega arith; b-in-16 = omega (arith, is .high .1); c-in-16 = omega (arith, is .few, said .count) }
+  pub font-answer-fits : FontFits (fontAnswer (reading s))
+  font-answer-fits = go (reading s) refl
+    where
+      go : (m : FontReading) → reading s ≡ m → FontFits (fontAnswer m)
+      go (says h es) e =
+          let is = font-read s h es e in
+          record { a-in-16 = omega arith; b-in-16 = omega (arith, is .high .1); c-in-16 = omega (arith, is .few) }
+      go (refuses r) e = font-fits r e
 
 -- A control file's: at most 256 commands and 64 stages.
 module _ (s : List ℕ) where
   pub control-fits : (r : Refusal) → flc.control s ≡ flc.refuses r → RefusalFits (r .number) (r .place)
   control-fits r e = let n = control-refusal s r e in table-fits _ _ (omega (arith, n .0)) (omega (arith, n .1)) (omega (arith, n .3))
 
-  pub control-refusal-fits : (r : Refusal) → control-is.Refused r ≡ lists.controlAnswer (flc.control s) → RefusalFits (r .number) (r .place)
-  control-refusal-fits r e = go (flc.control s) refl e
+  pub control-answer-fits : ControlFits (lists.controlAnswer (flc.control s))
+  control-answer-fits = go (flc.control s) refl
     where
-      go : (x : flc.ControlReading) → flc.control s ≡ x → control-is.Refused r ≡ lists.controlAnswer x → RefusalFits (r .number) (r .place)
-      go (flc.reads cs k) p q = clash (cc)
-      go (flc.refuses z) p q = let same : r ≡ z = cc in control-fits r (p ∙ ap flc.refuses (sym same))
-
-  pub control-values-fit : (n k : ℕ) → control-is.Read n k ≡ lists.controlAnswer (flc.control s) → ValuesFit 0 k n
-  control-values-fit n k e = go (flc.control s) refl e
-    where
-      go : (x : flc.ControlReading) → flc.control s ≡ x → control-is.Read n k ≡ lists.controlAnswer x → ValuesFit 0 k n
-      go (flc.reads cs j) p q =
-          let few = control-few s cs j p in
-          let same : n ≡ length cs = cc in
-          let stages : k ≡ j = cc in
-          record { a-in-16 = omega arith; b-in-16 = omega (arith, few .1, stages); c-in-16 = omega (arith, few .0, same) }
-      go (flc.refuses r) p q = clash (cc)
+      go : (x : flc.ControlReading) → flc.control s ≡ x → ControlFits (lists.controlAnswer x)
+      go (flc.reads cs k) e =
+          let few = control-few s cs k e in
+          record { a-in-16 = omega arith; b-in-16 = omega (arith, few .1); c-in-16 = omega (arith, few .0) }
+      go (flc.refuses r) e = control-fits r e
 
 -- A drawing's: a text has at most 1,024 bytes to count.
-abbrev pub DrawFits : DrawAnswer → Type 0
-DrawFits (draw-is.Drawn w n) = ValuesFit (n .«nothing_drawn») (n .«stood_in») w
-DrawFits (draw-is.Refused r) = RefusalFits (r .number) (r .place)
-
 module _ (size : ℕ) (s control text : List ℕ) (room : ℕ) where
   by-reason : (a : DrawAnswer) → DrawsTo size s control text room a → DrawFits a
   by-reason _ (scratch-small u) = table-fits _ _ (omega arith) (omega arith) (omega arith)
@@ -119,23 +92,27 @@ module _ (size : ℕ) (s control text : List ℕ) (room : ℕ) where
 
 -- A join's.
 module _ (y : Mode) (h n : ℕ) (line : List ℕ) (m : ℕ) (character : List ℕ) (room : ℕ) where
-  pub join-refusal-fits : (r : Refusal) → joinTells (join-is.Refused r) ≡ joinTold y h n line m character room → RefusalFits (r .number) (r .place)
+  join-refusal-fits : (r : Refusal) → joinTells (join-is.Refused r) ≡ joinTold y h n line m character room → RefusalFits (r .number) (r .place)
   join-refusal-fits r e =
       let low = refused-tells y h n line m character room (sym (ap (λ (t : JoinTold). t .refused) e)) in
       let number = ap (λ (t : JoinTold). t .number) e in
       table-fits _ _ (omega (arith, number, low .0)) (omega (arith, number, low .1)) (omega (arith, ap (λ (t : JoinTold). t .place) e, low .2))
 
-  pub join-values-fit : (o w : ℕ) → joinTells (join-is.Joined o w) ≡ joinTold y h n line m character room → ValuesFit 0 o w
+  join-values-fit : (o w : ℕ) → joinTells (join-is.Joined o w) ≡ joinTold y h n line m character room → ValuesFit 0 o w
   join-values-fit o w e =
       let k = joined-within y h n line m character room o w e in
       record { a-in-16 = omega arith; b-in-16 = omega (arith, k .0, k .1); c-in-16 = omega (arith, k .1) }
+
+  pub join-fits : (a : JoinAnswer) → joinTells a ≡ joinTold y h n line m character room → JoinFits a
+  join-fits (join-is.Joined o w) e = join-values-fit o w e
+  join-fits (join-is.Refused r) e = join-refusal-fits r e
 
 -- A stack's.
 module _ (layout : VerticalLayout) (hardblank n upperWidth : ℕ) (upper : List ℕ) (m lowerWidth : ℕ) (lower : List ℕ) (room : ℕ) where
   abbrev told : StackTold
   told = stackTold layout hardblank n upperWidth upper m lowerWidth lower room
 
-  pub stack-refusal-fits : (r : Refusal) → stackTells (stack-is.Refused r) ≡ told → RefusalFits (r .number) (r .place)
+  stack-refusal-fits : (r : Refusal) → stackTells (stack-is.Refused r) ≡ told → RefusalFits (r .number) (r .place)
   stack-refusal-fits r e =
       let low = stacks.refused-tells layout hardblank n upperWidth upper m lowerWidth lower room (sym (ap (λ (t : StackTold). t .refused) e)) in
       let number = ap (λ (t : StackTold). t .number) e in
@@ -144,30 +121,34 @@ module _ (layout : VerticalLayout) (hardblank n upperWidth : ℕ) (upper : List 
       λ k u v q. table-fits _ _ (omega (arith, number, q, u)) (omega (arith, number, q, v)) (omega (arith, place, low .1)) in
       ⊎-elim (fits _ (omega arith) (omega arith)) (⊎-elim (fits _ (omega arith) (omega arith)) (fits _ (omega arith) (omega arith))) (low .0)
 
-  pub stack-values-fit : (o h w : ℕ) → stackTells (stack-is.Stacked o h w) ≡ told → ValuesFit o h w
+  stack-values-fit : (o h w : ℕ) → stackTells (stack-is.Stacked o h w) ≡ told → ValuesFit o h w
   stack-values-fit o h w e =
       let k = stacks.stacked-within layout hardblank n upperWidth upper m lowerWidth lower room o h w e in
       record { a-in-16 = omega (arith, k .0); b-in-16 = omega (arith, k .1); c-in-16 = omega (arith, k .2) }
 
+  pub stack-fits : (a : StackAnswer) → stackTells a ≡ told → StackFits a
+  stack-fits (stack-is.Stacked o h w) e = stack-values-fit o h w e
+  stack-fits (stack-is.Refused r) e = stack-refusal-fits r e
+
 -- Those of two lines.
 module _ (size : ℕ) (s control upper lower : List ℕ) (room : ℕ) where
-  pub lines-refusal-fits : (r : Refusal) → stackTells (stack-is.Refused r) ≡ two-lines.answer size s control upper lower room → RefusalFits (r .number) (r .place)
+  lines-refusal-fits : (r : Refusal) → stackTells (stack-is.Refused r) ≡ two-lines.answer size s control upper lower room → RefusalFits (r .number) (r .place)
   lines-refusal-fits r e =
       let low = two-lines.refused-tells size s control upper lower room (sym (ap (λ (t : StackTold). t .refused) e)) in
       let number = ap (λ (t : StackTold). t .number) e in
       let place = ap (λ (t : StackTold). t .place) e in
       table-fits _ _ (omega (arith, number, low .number-from-1)) (omega (arith, number, low .number-to-16)) (omega (arith, place, low .place-small))
 
-  pub lines-values-fit : (o h w : ℕ) → stackTells (stack-is.Stacked o h w) ≡ two-lines.answer size s control upper lower room → ValuesFit o h w
+  lines-values-fit : (o h w : ℕ) → stackTells (stack-is.Stacked o h w) ≡ two-lines.answer size s control upper lower room → ValuesFit o h w
   lines-values-fit o h w e =
       let k = two-lines.lines-within size s control upper lower room o h w e in
       record { a-in-16 = omega (arith, k .0); b-in-16 = omega (arith, k .1); c-in-16 = omega (arith, k .2) }
 
--- Those of a text in lines: there are no more of them than bytes.
-abbrev WrapFits : WrapAnswer → Type 0
-WrapFits (wrap-is.Wrapped lines n) = ValuesFit (n .«nothing_drawn») (n .«stood_in») lines
-WrapFits (wrap-is.Refused r) = RefusalFits (r .number) (r .place)
+  pub lines-fits : (a : StackAnswer) → stackTells a ≡ two-lines.answer size s control upper lower room → StackFits a
+  lines-fits (stack-is.Stacked o h w) e = lines-values-fit o h w e
+  lines-fits (stack-is.Refused r) e = lines-refusal-fits r e
 
+-- Those of a text in lines: there are no more of them than bytes.
 module _ (firstRoom endRoom size : ℕ) (s control : List ℕ) (limit : ℕ) (text : List ℕ) (room : ℕ) where
   by-cause : (a : WrapAnswer) → wraps.WrapsTo firstRoom endRoom size s control limit text room a → WrapFits a
   by-cause _ (wraps.areas-small l) = table-fits _ _ (omega arith) (omega arith) (omega arith)

@@ -1,8 +1,8 @@
 -- Every number and place of the answers of a check of a drawing has room in its 64 bits.
 -- Assumes nothing.
-use mathlib.Core.Path.{_≡_, refl, sym, ap, _∙_, subst}
+use mathlib.Core.Path.{_≡_, refl, sym, subst}
 use mathlib.Core.List.{List, [], _∷_}
-use Prim.Native.Nat.{ℕ, _+_, _-_, _*_, _≤_, _<_}
+use Prim.Native.Nat.{ℕ, _+_, _*_, _≤_}
 use native.Mathlib.Omega.{arith}
 use native.Mathlib.Nat.{mul-le-mul-right}
 use lib.ListN.{length}
@@ -22,14 +22,8 @@ use Rattle.checking.proofs.VerdictLaws.{overlap-exactly, byte-exactly, refused-
 use Rattle.checking.proofs.TraceLaws.{one-less}
 use Rattle.drawingcheck.specs.CheckDrawing.{drawingChecked}
 use Rattle.drawingcheck.proofs.Answers as check
-use Rattle.capi.specs.Numbers.{valueBound, RefusalFits}
+use Rattle.answers.specs.Fits.{RefusalFits, CheckFits}
 use Rattle.capi.proofs.Bounds.{table-fits, font-fits, control-fits}
-
-abbrev pub CheckFits : CheckAnswer → Type 0
-CheckFits Accepted = Unit
-CheckFits (WrongOverlap k) = k < valueBound * valueBound
-CheckFits (WrongByte p) = p < valueBound * valueBound
-CheckFits (Refused r) = RefusalFits (r .number) (r .place)
 
 -- A text draws no more characters than it has codes.
 few-characters : (source : Source) (cs : List Code) → length (charactersOf source cs) ≤ length cs

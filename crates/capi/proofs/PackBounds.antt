@@ -1,8 +1,8 @@
 -- Every number, place and value of the answers about packs has room in its 64 bits.
 -- Assumes nothing.
-use mathlib.Core.Path.{_≡_, refl, sym, ap, _∙_, subst}
+use mathlib.Core.Path.{_≡_, refl}
 use mathlib.Core.Bool.{Bool, true, false, cond}
-use mathlib.Core.List.{List, [], _∷_, _++_}
+use mathlib.Core.List.{List, _++_}
 use Prim.Native.Nat.{ℕ, _+_, _*_, _≤_, _<_}
 use native.Mathlib.Omega.{arith}
 use native.Mathlib.Nat.{mul-le-mul-right}
@@ -10,9 +10,7 @@ use lib.Dec.{eqb, ltb}
 use lib.ListN.{length, length-append}
 use borrow.Author.Tests.{ltb-false}
 use Rattle.ground.specs.Limits.{maxText, maxLineWidth, minScratch}
-use Rattle.ground.specs.Refusals.{refusal, areaTooSmall, textTooLong, lineTooWide, badShape, damagedPack, codePresent, codeAbsent, noRoom, wrongLength}
-use Rattle.ground.specs.declared.refusals.Refusal.{Refusal}
-use Rattle.ground.proofs.Tests.{clash}
+use Rattle.ground.specs.Refusals.{refusal, areaTooSmall, textTooLong, lineTooWide, badShape, damagedPack, codePresent, codeAbsent, noRoom}
 use Rattle.subchars.specs.declared.Code.{Code}
 use Rattle.subchars.specs.declared.Direction.{Direction}
 use Rattle.subchars.specs.declared.Layout.{Layout}
@@ -23,9 +21,9 @@ use Rattle.figure.specs.Line.{outputOf}
 use Rattle.records.specs.declared.Head.{Head}
 use Rattle.records.specs.declared.Place.{Place}
 use Rattle.records.specs.declared.Place.the-variants.{At, Nowhere}
-use Rattle.records.specs.Versions.{headLength, recordHeadLength}
+use Rattle.records.specs.Versions.{headLength}
 use Rattle.records.specs.Records.{minusOne, isLive, hasLive, liveCount}
-use Rattle.records.specs.Steps.{placeIn}
+use Rattle.records.specs.Places.{placeIn}
 use Rattle.records.proofs.VersionLaws.{head-length-low}
 use Rattle.records.proofs.ListingLaws.{fine}
 use Rattle.edits.specs.Changes.{joined}
@@ -33,27 +31,21 @@ use Rattle.edits.proofs.ReadBack.{Wholes, none, more}
 use Rattle.heads.specs.Pack.{Pack, says, damaged, meaning}
 use Rattle.heads.proofs.FindLaws.{some, low, short, place-in}
 use Rattle.heads.proofs.OpenLaws.{opens-of, pack-wholes, pack-fits}
-use Rattle.pack.specs.declared.PackAnswer.the-variants as checked
-use Rattle.pack.specs.declared.Located.{Located}
 use Rattle.pack.specs.declared.Located.the-variants as located
-use Rattle.pack.specs.declared.FindAnswer.{FindAnswer}
-use Rattle.pack.specs.declared.FindAnswer.the-variants as sought
-use Rattle.pack.specs.declared.EditAnswer.{EditAnswer}
-use Rattle.pack.specs.declared.EditAnswer.the-variants as edited
-use Rattle.pack.specs.Calls.{checkTold, locatedAt, locatedIn, foundAt, findTold, Change, changed, refused, tells, goodLetter, hasRoom, insertion, removal, compaction}
+use Rattle.pack.specs.Calls.{checkTold, locatedAt, locatedIn, foundAt, findTold, changed, refused, tells, goodLetter, hasRoom, insertion, removal, compaction}
 use Rattle.flc.specs.Control as flc
 use Rattle.source.specs.Source.{Source, packSource}
 use Rattle.source.specs.Counting.{countsOf}
 use Rattle.source.proofs.CountLaws.{few-replaced}
-use Rattle.drawing.specs.declared.DrawAnswer.{DrawAnswer}
-use Rattle.drawing.specs.Drawing.{textCodes, lineOf, unlined, linedText, linedFrom, withCounts, linedAnswer}
+use Rattle.drawing.specs.Drawing.{textCodes, lineOf, draws, refuses, unlined, linedText, linedRead, linedFrom, withCounts, linedAnswer}
 use Rattle.drawing.proofs.DrawingLaws.{as-many}
 use Rattle.packdrawing.specs.PackDrawing.{packMode, packBy, packOf, packLined}
-use Rattle.capi.specs.Numbers.{RefusalFits, ValuesFit, PlaceFits}
-use Rattle.capi.proofs.Bounds.{table-fits, control-fits, DrawFits}
+use Rattle.answers.specs.Numbers.{valueBound}
+use Rattle.answers.specs.Fits.{RefusalFits, DrawFits, PackFits, FindFits, EditFits}
+use Rattle.capi.proofs.Bounds.{table-fits, control-fits}
 
 -- A number of the table at place 0.
-pub known : (n : ℕ) → 1 ≤ n → n ≤ wrongLength → RefusalFits n 0
+pub known : (n : ℕ) → 1 ≤ n → n < valueBound → RefusalFits n 0
 known n l m = table-fits n 0 l m (omega arith)
 
 -- A pack has fewer live records than bytes.
@@ -66,32 +58,18 @@ few-live f (more {r} {rs} x k) = go (isLive r) (few-live f k)
     go true l = omega (arith, length-append r (joined rs), fine f r (x .fits) .head)
     go false l = omega (arith, length-append r (joined rs))
 
-module _ (s : List ℕ) where
-  pub check-values-fit : (h n : ℕ) → checked.Accepted h n ≡ checkTold (meaning s) → ValuesFit 0 h n
-  unfolding checkTold
-  check-values-fit h n e = go (meaning s) refl e
-    where
-      go : (p : Pack) → meaning s ≡ p → checked.Accepted h n ≡ checkTold p → ValuesFit 0 h n
-      go (says f rs) m q =
-          let a : h ≡ f .height = cc in
-          let b : n ≡ liveCount rs = cc in
-          let o = opens-of s f rs m in
-          record { a-in-16 = omega arith; b-in-16 = omega (arith, low s f rs m); c-in-16 = omega (arith, few-live f (pack-wholes s f rs o), pack-fits s f rs o, short s f rs m, head-length-low (f .version)) }
-      go damaged m q = clash (cc)
-
-  pub check-refusal-fits : (r : Refusal) → checked.Refused r ≡ checkTold (meaning s) → RefusalFits (r .number) (r .place)
-  unfolding checkTold
-  check-refusal-fits r e = go (meaning s) e
-    where
-      go : (p : Pack) → checked.Refused r ≡ checkTold p → RefusalFits (r .number) (r .place)
-      go (says f rs) q = clash (cc)
-      go damaged q = let a : r ≡ refusal damagedPack 0 = cc in subst (λ (x : Refusal). RefusalFits (x .number) (x .place)) (sym a) (known damagedPack (omega arith) (omega arith))
+-- What the check of a pack answers.
+pub pack-answer-fits : (s : List ℕ) → PackFits (checkTold (meaning s))
+unfolding checkTold
+pack-answer-fits s = go (meaning s) refl
+  where
+    go : (p : Pack) → meaning s ≡ p → PackFits (checkTold p)
+    go (says f rs) m =
+        let o = opens-of s f rs m in
+        record { a-in-16 = omega arith; b-in-16 = omega (arith, low s f rs m); c-in-16 = omega (arith, few-live f (pack-wholes s f rs o), pack-fits s f rs o, short s f rs m, head-length-low (f .version)) }
+    go damaged m = known damagedPack (omega arith) (omega arith)
 
 -- What find answers.
-abbrev pub FindFits : FindAnswer → Type 0
-FindFits (sought.Found p w) = PlaceFits p w
-FindFits (sought.Refused r) = RefusalFits (r .number) (r .place)
-
 pub find-fits : (s : List ℕ) (code : ℕ) → FindFits (findTold (meaning s) code)
 unfolding findTold locatedIn
 find-fits s code = go (meaning s) refl
@@ -112,10 +90,6 @@ find-fits s code = go (meaning s) refl
     go damaged m = known damagedPack (omega arith) (omega arith)
 
 -- What a change answers.
-abbrev pub EditFits : EditAnswer → Type 0
-EditFits edited.Done = Unit
-EditFits (edited.Refused r) = RefusalFits (r .number) (r .place)
-
 pub put-fits : (p : Pack) (size code width : ℕ) (rows : List ℕ) → EditFits (tells (insertion p size code width rows))
 unfolding insertion
 put-fits damaged size code width rows = known damagedPack (omega arith) (omega arith)
@@ -166,7 +140,7 @@ module _ (y : Mode) (h : ℕ) (source : Source) (control text : List ℕ) (room 
       go (flc.refuses r) e = control-fits control r e
       go (flc.reads cs k) e = tested (ltb maxText (length text)) refl
         where
-          tested : (b : Bool) → ltb maxText (length text) ≡ b → DrawFits (linedAnswer (cond b (unlined (refusal textTooLong 0)) (linedText y h source (textCodes cs k text))) room)
+          tested : (b : Bool) → ltb maxText (length text) ≡ b → DrawFits (linedAnswer (linedRead y h source (cond b (refuses (refusal textTooLong 0)) (draws (textCodes cs k text)))) room)
           tested true q = known textTooLong (omega arith) (omega arith)
           tested false q = put-fits-in (textCodes cs k text) (omega (arith, as-many cs k text, ltb-false maxText (length text) q))
 

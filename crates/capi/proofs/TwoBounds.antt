@@ -16,7 +16,8 @@ use Rattle.source.specs.Source.{twoSource}
 use Rattle.drawing.specs.Drawing.{modeOf, unlined, linedAnswer}
 use Rattle.twofonts.specs.Fonts.{fonts, unfit, alike, fontsBy, fontsOf}
 use Rattle.twofonts.specs.TwoDrawing.{twoBy, twoOf, twoLined}
-use Rattle.capi.proofs.Bounds.{font-fits, DrawFits}
+use Rattle.answers.specs.Fits.{DrawFits}
+use Rattle.capi.proofs.Bounds.{font-fits}
 use Rattle.capi.proofs.PackBounds.{known, from-fits}
 
 pub draw-two-fits : (scratch : ℕ) (s t control text : List ℕ) (room : ℕ) → DrawFits (linedAnswer (twoLined scratch s t control text) room)

@@ -3,24 +3,15 @@ pub mod checks;
 pub mod fonts;
 pub mod packs;
 
-use drawing::DrawAnswer;
-use flc::ControlAnswer;
 use ground::limits;
 use ground::refusals;
-use ground::refusals::Refusal;
-use reader::FontAnswer;
 use subchars::Direction;
 use subchars::Layout;
 use subchars::SubCharacter;
 use subchars::VerticalLayout;
-use wattleslate::JoinAnswer;
-use wattleslate::LinesAnswer;
-use wattleslate::StackAnswer;
-use wattleslate::WrapAnswer;
 ghost use mathlib.Core.Path.{_≡_};
 ghost use lib.ListN.{length};
 ghost use Rattle.ground.specs.Area.{zeros};
-ghost use Rattle.ground.specs.declared.refusals.Refusal.{Refusal};
 ghost use Rattle.font.specs.Font.{reading};
 ghost use Rattle.flc.specs.Control.{control};
 ghost use Rattle.reader.specs.Reader.{fontAnswer};
@@ -28,29 +19,8 @@ ghost use Rattle.wattleslate.specs.ControlCall.{controlTold};
 ghost use Rattle.wattleslate.specs.DrawCall.{drawTold, drawOutput};
 ghost use Rattle.twolines.specs.TwoLines.{drawLines, linesTold, linesOutput};
 ghost use Rattle.wrapping.specs.Wrapping.{drawWrapped, wrapIn, wrapAnswer, wrapFirsts, wrapEnds, wrapOutput};
-ghost use Rattle.capi.specs.Numbers.{refusedAt, RefusalFits, threeValues, ValuesFit, fontNumber, controlNumber, drawNumber, wrapNumber, joinNumber, joinTaken, joinLeft, stackNumber, stackTaken, stackLeft};
-
-// A value is below this, as is a refusal's number: 16 bits.
-pub(crate) const VALUE_BOUND: u64 = 65536;
-
-// A place is below this: 48 bits, those of three values.
-const PLACE_BOUND: u64 = VALUE_BOUND * VALUE_BOUND * VALUE_BOUND;
-
-// A refusal's number above its place.
-pub(crate) fn refused_at(number: usize, place: usize) -> u64
-    requires { ⌜ RefusalFits number place ⌝ }
-    ensures { λ r. ⌜ r ≡ refusedAt number place ⌝ }
-{
-    number as u64 * PLACE_BOUND + place as u64
-}
-
-// Three values in the place's bits.
-pub(crate) fn three_values(a: usize, b: usize, c: usize) -> u64
-    requires { ⌜ ValuesFit a b c ⌝ }
-    ensures { λ r. ⌜ r ≡ threeValues a b c ⌝ }
-{
-    (a as u64 * VALUE_BOUND + b as u64) * VALUE_BOUND + c as u64
-}
+ghost use Rattle.answers.specs.Numbers.{fontNumber, controlNumber, drawNumber, wrapNumber, joinNumber, stackNumber};
+ghost use Rattle.capi.specs.Numbers.{joinTaken, joinLeft, stackTaken, stackLeft};
 
 // Reads a font, and answers its height and how many characters it has. Refusals 1 to 8.
 #[no_mangle]
@@ -60,13 +30,8 @@ pub extern "C" fn wattleslate_check_font(font: &[u8]) -> u64
     let mut codes = [0i32; limits::MAX_CHARACTERS];
     let mut starts = [0usize; limits::MAX_CHARACTERS];
     let mut widths = [0usize; limits::MAX_CHARACTERS];
-    match reader::read_lists(font, &mut codes, &mut starts, &mut widths) {
-        FontAnswer::Read { header, count } => {
-            let height = header.height;
-            three_values(0, height, count)
-        }
-        FontAnswer::Refused(r) => refused_at(r.number, r.place),
-    }
+    let answer = reader::read_lists(font, &mut codes, &mut starts, &mut widths);
+    answers::font_number(answer)
 }
 
 // Reads a control file, and answers how many stages and commands it has. Refusals 10 to 14.
@@ -78,13 +43,8 @@ pub extern "C" fn wattleslate_check_control(file: &[u8]) -> u64
     let mut firsts = [0i32; limits::MAX_COMMANDS];
     let mut lasts = [0i32; limits::MAX_COMMANDS];
     let mut news = [0i32; limits::MAX_COMMANDS];
-    match flc::read_lists(file, &mut stages, &mut firsts, &mut lasts, &mut news) {
-        ControlAnswer::Read {
-            commands,
-            stages: k,
-        } => three_values(0, k, commands),
-        ControlAnswer::Refused(r) => refused_at(r.number, r.place),
-    }
+    let answer = flc::read_lists(file, &mut stages, &mut firsts, &mut lasts, &mut news);
+    answers::control_number(answer)
 }
 
 // Draws a line of text, and answers how many text bytes drew nothing, how many were stood in, and the width: `wattleslate::draw`.
@@ -100,12 +60,7 @@ pub extern "C" fn wattleslate_draw(
     ensures output { λ r. ⌜ now (out .exit) ≡ drawOutput (length (now (scratch .entry))) (now (font .entry)) (now (control .entry)) (now (text .entry)) (length (now (out .entry))) ⌝ }
     ensures scratch { λ r. ⌜ now (scratch .exit) ≡ zeros (length (now (scratch .entry))) ⌝ }
 {
-    match wattleslate::draw(font, control, text, scratch, out) {
-        DrawAnswer::Drawn { width, counts } => {
-            three_values(counts.nothing_drawn, counts.stood_in, width)
-        }
-        DrawAnswer::Refused(r) => refused_at(r.number, r.place),
-    }
+    answers::draw_number(wattleslate::draw(font, control, text, scratch, out))
 }
 
 // Joins a FIGcharacter to a line, and answers overlap and width: `wattleslate::join`, with the layout as a Full_Layout (0 to 32,767) and the direction
@@ -130,9 +85,9 @@ pub extern "C" fn wattleslate_join(
         direction <= limits::MAX_DIRECTION,
     ) {
         ground::zero_from(out, 0);
-        return refused_at(refusals::BAD_SHAPE, 0);
+        return answers::refused_at(refusals::BAD_SHAPE, 0);
     }
-    match wattleslate::join(
+    answers::join_number(wattleslate::join(
         line,
         line_width,
         character,
@@ -142,10 +97,7 @@ pub extern "C" fn wattleslate_join(
         Layout::from_full(layout),
         Direction::from_print(direction),
         out,
-    ) {
-        JoinAnswer::Joined { overlap, width } => three_values(0, overlap, width),
-        JoinAnswer::Refused(r) => refused_at(r.number, r.place),
-    }
+    ))
 }
 
 // Stacks a lower block under an upper one, and answers overlap, height and width: `wattleslate::stack`, with the layout as a Full_Layout (0 to 32,767),
@@ -167,9 +119,9 @@ pub extern "C" fn wattleslate_stack(
 {
     if limits::MAX_FULL_LAYOUT < layout {
         ground::zero_from(out, 0);
-        return refused_at(refusals::BAD_SHAPE, 0);
+        return answers::refused_at(refusals::BAD_SHAPE, 0);
     }
-    match wattleslate::stack(
+    answers::stack_number(wattleslate::stack(
         upper,
         upper_width,
         upper_height,
@@ -179,14 +131,7 @@ pub extern "C" fn wattleslate_stack(
         SubCharacter(hardblank),
         VerticalLayout::from_full(layout),
         out,
-    ) {
-        StackAnswer::Stacked {
-            overlap,
-            height,
-            width,
-        } => three_values(overlap, height, width),
-        StackAnswer::Refused(r) => refused_at(r.number, r.place),
-    }
+    ))
 }
 
 // Draws two texts one above the other, and answers overlap, height and width: `wattleslate::draw_stacked`.
@@ -203,15 +148,7 @@ pub extern "C" fn wattleslate_draw_stacked(
     ensures output { λ r. ⌜ now (out .exit) ≡ linesOutput (drawLines (length (now (scratch .entry))) (now (font .entry)) (now (control .entry)) (now (upper .entry)) (now (lower .entry))) (length (now (out .entry))) ⌝ }
     ensures scratch { λ r. ⌜ now (scratch .exit) ≡ zeros (length (now (scratch .entry))) ⌝ }
 {
-    match wattleslate::draw_stacked(font, control, upper, lower, scratch, out) {
-        LinesAnswer::Drawn {
-            overlap: o,
-            height: h,
-            width: w,
-            counts: _,
-        } => three_values(o, h, w),
-        LinesAnswer::Refused(r) => refused_at(r.number, r.place),
-    }
+    answers::lines_number(wattleslate::draw_stacked(font, control, upper, lower, scratch, out))
 }
 
 // Draws a text in lines, and answers how many text bytes drew nothing, how many were stood in, and how many lines: `wattleslate::draw_wrapped`.
@@ -232,10 +169,6 @@ pub extern "C" fn wattleslate_draw_wrapped(
     ensures output { λ r. ⌜ now (out .exit) ≡ wrapOutput (drawWrapped (length (now (firsts .entry))) (length (now (ends .entry))) (length (now (scratch .entry))) (now (font .entry)) (now (control .entry)) limit (now (text .entry))) (length (now (out .entry))) ⌝ }
     ensures scratch { λ r. ⌜ now (scratch .exit) ≡ zeros (length (now (scratch .entry))) ⌝ }
 {
-    match wattleslate::draw_wrapped(font, control, text, limit, scratch, firsts, ends, out) {
-        WrapAnswer::Wrapped { lines, counts } => {
-            three_values(counts.nothing_drawn, counts.stood_in, lines)
-        }
-        WrapAnswer::Refused(r) => refused_at(r.number, r.place),
-    }
+    let answer = wattleslate::draw_wrapped(font, control, text, limit, scratch, firsts, ends, out);
+    answers::wrap_number(answer)
 }

@@ -1,16 +1,9 @@
 // The calls on font packs for programs in C and Rust.
-use crate::VALUE_BOUND;
-use crate::refused_at;
-use crate::three_values;
-use drawing::DrawAnswer;
 use ground::limits;
 use subchars::Code;
 use subchars::Direction;
 use subchars::Layout;
 use subchars::Smushing;
-use wattleslate::EditAnswer;
-use wattleslate::FindAnswer;
-use wattleslate::PackAnswer;
 ghost use mathlib.Core.Path.{_≡_};
 ghost use lib.ListN.{length};
 ghost use Rattle.ground.specs.Area.{zeros, padded};
@@ -21,25 +14,15 @@ ghost use Rattle.pack.specs.Calls.{checkTold, findTold, tells, after, insertion
 ghost use Rattle.drawing.specs.Drawing.{linedAnswer, bytesOf};
 ghost use Rattle.packdrawing.specs.PackDrawing.{packLined};
 ghost use Rattle.wattleslate.specs.DrawCall.{drawTells};
-ghost use Rattle.capi.specs.Numbers.{packNumber, placedAt, PlaceFits, findNumber, editNumber, drawNumber, layoutBy};
-
-// A place above a width.
-fn placed_at(place: usize, width: usize) -> u64
-    requires { ⌜ PlaceFits place width ⌝ }
-    ensures { λ r. ⌜ r ≡ placedAt place width ⌝ }
-{
-    place as u64 * VALUE_BOUND + width as u64
-}
+ghost use Rattle.answers.specs.Numbers.{packNumber, findNumber, editNumber, drawNumber};
+ghost use Rattle.capi.specs.Numbers.{layoutBy};
 
 // Tests a pack, and answers its height and how many records are live. Refusal 20.
 #[no_mangle]
 pub extern "C" fn wattleslate_pack_check(pack: &[u8]) -> u64
     ensures answer { λ r. ⌜ r ≡ packNumber (checkTold (meaning (now (pack .entry)))) ⌝ }
 {
-    match wattleslate::pack_check(pack) {
-        PackAnswer::Accepted { height, live } => three_values(0, height, live),
-        PackAnswer::Refused(r) => refused_at(r.number, r.place),
-    }
+    answers::pack_number(wattleslate::pack_check(pack))
 }
 
 // Where the rows of a code's letter start in a pack, and its width. Refusals: 20, 17, 22.
@@ -47,10 +30,7 @@ pub extern "C" fn wattleslate_pack_check(pack: &[u8]) -> u64
 pub extern "C" fn wattleslate_pack_find(pack: &[u8], code: i32) -> u64
     ensures answer { λ r. ⌜ r ≡ findNumber (findTold (meaning (now (pack .entry))) (bitsOf code)) ⌝ }
 {
-    match wattleslate::pack_find(pack, Code(code)) {
-        FindAnswer::Found { place, width } => placed_at(place, width),
-        FindAnswer::Refused(r) => refused_at(r.number, r.place),
-    }
+    answers::find_number(wattleslate::pack_find(pack, Code(code)))
 }
 
 // Puts a letter into a pack. Refusals: 20, 17, 21, 23.
@@ -59,10 +39,7 @@ pub extern "C" fn wattleslate_pack_put(pack: &mut [u8], code: i32, width: usize,
     ensures answer { λ r. ⌜ r ≡ editNumber (tells (insertion (meaning (now (pack .entry))) (length (now (pack .entry))) (bitsOf code) width (now (rows .entry)))) ⌝ }
     ensures bytes { λ r. ⌜ now (pack .exit) ≡ after (now (pack .entry)) (insertion (meaning (now (pack .entry))) (length (now (pack .entry))) (bitsOf code) width (now (rows .entry))) ⌝ }
 {
-    match wattleslate::pack_put(pack, Code(code), width, rows) {
-        EditAnswer::Done => 0,
-        EditAnswer::Refused(r) => refused_at(r.number, r.place),
-    }
+    answers::edit_number(wattleslate::pack_put(pack, Code(code), width, rows))
 }
 
 // Frees the record of a code's letter. Refusals: 20, 17, 22.
@@ -71,10 +48,7 @@ pub extern "C" fn wattleslate_pack_remove(pack: &mut [u8], code: i32) -> u64
     ensures answer { λ r. ⌜ r ≡ editNumber (tells (removal (meaning (now (pack .entry))) (bitsOf code))) ⌝ }
     ensures bytes { λ r. ⌜ now (pack .exit) ≡ after (now (pack .entry)) (removal (meaning (now (pack .entry))) (bitsOf code)) ⌝ }
 {
-    match wattleslate::pack_remove(pack, Code(code)) {
-        EditAnswer::Done => 0,
-        EditAnswer::Refused(r) => refused_at(r.number, r.place),
-    }
+    answers::edit_number(wattleslate::pack_remove(pack, Code(code)))
 }
 
 // Drops the free records of a pack. Refusal 20.
@@ -83,10 +57,7 @@ pub extern "C" fn wattleslate_pack_compact(pack: &mut [u8]) -> u64
     ensures answer { λ r. ⌜ r ≡ editNumber (tells (compaction (meaning (now (pack .entry))))) ⌝ }
     ensures bytes { λ r. ⌜ now (pack .exit) ≡ after (now (pack .entry)) (compaction (meaning (now (pack .entry)))) ⌝ }
 {
-    match wattleslate::pack_compact(pack) {
-        EditAnswer::Done => 0,
-        EditAnswer::Refused(r) => refused_at(r.number, r.place),
-    }
+    answers::edit_number(wattleslate::pack_compact(pack))
 }
 
 // The layout that two numbers say, or one of bad shape.
@@ -119,10 +90,5 @@ pub extern "C" fn wattleslate_draw_pack(
 {
     let taken = layout_by(layout, direction);
     let print = Direction::from_print(direction);
-    match wattleslate::draw_pack(pack, taken, print, control, text, scratch, out) {
-        DrawAnswer::Drawn { width, counts } => {
-            three_values(counts.nothing_drawn, counts.stood_in, width)
-        }
-        DrawAnswer::Refused(r) => refused_at(r.number, r.place),
-    }
+    answers::draw_number(wattleslate::draw_pack(pack, taken, print, control, text, scratch, out))
 }

@@ -16,7 +16,7 @@ use Rattle.checking.specs.declared.Compared.the-variants.{Same, Differs}
 use Rattle.checking.specs.declared.Tally.{Tally}
 use Rattle.checking.specs.Difference.{further, firstDifference}
 use Rattle.checking.specs.Verdict.{afterFirst, named, verdict}
-use Rattle.checking.specs.Steps.{soFar, firstOf, tallied}
+use Rattle.checking.specs.Steps.{soFar, firstWrongOf, tallied}
 
 -- n places further on
 abbrev shifted : ℕ → Compared → Compared
@@ -40,7 +40,7 @@ behind-same : (c : Compared) (n : ℕ) → behind c n Same ≡ c
 behind-same Same n = shifted-same n
 behind-same (Differs k) n = refl
 
-behind-first : (c : Compared) (n : ℕ) → behind c n (Differs 0) ≡ firstOf c n
+behind-first : (c : Compared) (n : ℕ) → behind c n (Differs 0) ≡ firstWrongOf c n
 behind-first Same n = shifted-first n
 behind-first (Differs k) n = refl
 
@@ -68,11 +68,11 @@ module _ (x : ℕ) where
     unfolding firstDifference
     next-right l e = sym (behind-same (soFar xs ys) (length xs)) ∙ next (rw (drop-cons ys (length xs) 0 l) (simp (eq-eqb x (getD ys (length xs) 0) (sym e))))
 
-    pub next-wrong : length xs < length ys → (getD ys (length xs) 0 ≡ x → ⊥) → firstOf (soFar xs ys) (length xs) ≡ soFar (xs ++ (x ∷ [])) ys
+    pub next-wrong : length xs < length ys → (getD ys (length xs) 0 ≡ x → ⊥) → firstWrongOf (soFar xs ys) (length xs) ≡ soFar (xs ++ (x ∷ [])) ys
     unfolding firstDifference
     next-wrong l n = sym (behind-first (soFar xs ys) (length xs)) ∙ next (rw (drop-cons ys (length xs) 0 l) (simp (ne-eqb x (getD ys (length xs) 0) (λ q. n (sym q)))))
 
-    pub list-ended : length ys ≤ length xs → firstOf (soFar xs ys) (length xs) ≡ soFar (xs ++ (x ∷ [])) ys
+    pub list-ended : length ys ≤ length xs → firstWrongOf (soFar xs ys) (length xs) ≡ soFar (xs ++ (x ∷ [])) ys
     unfolding firstDifference
     list-ended l = sym (behind-first (soFar xs ys) (length xs)) ∙ next (rw (drop-of-length-le ys l))
 

@@ -14,9 +14,9 @@ abbrev pub soFar : List ℕ → List ℕ → Compared
 soFar right overlaps = firstDifference right (take (length right) overlaps)
 
 -- With a wrong one behind them, which has number k: the first is named.
-abbrev pub firstOf : Compared → ℕ → Compared
-firstOf Same k = Differs k
-firstOf (Differs first) k = Differs first
+abbrev pub firstWrongOf : Compared → ℕ → Compared
+firstWrongOf Same k = Differs k
+firstWrongOf (Differs first) k = Differs first
 
 -- The list, and the trace of the characters drawn so far.
 abbrev pub tallied : List ℕ → List ℕ → Tally

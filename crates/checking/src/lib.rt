@@ -16,7 +16,7 @@ ghost use Rattle.figure.specs.Scratch.{scratchLine};
 ghost use Rattle.checking.specs.declared.Compared.the-variants.{Same};
 ghost use Rattle.checking.specs.Difference.{firstDifference};
 ghost use Rattle.checking.specs.Verdict.{named, lineChecked};
-ghost use Rattle.checking.specs.Steps.{soFar, firstOf, tallied};
+ghost use Rattle.checking.specs.Steps.{soFar, firstWrongOf, tallied};
 
 // How two lists compare: they are the same, or they first differ at a place.
 pub enum Compared {
@@ -99,7 +99,7 @@ pub fn compare_line(area: &[u8], mode: Mode, w: usize, h: usize, figure: &[u8]) 
 
 // The first of the wrong places so far and one more, behind them.
 fn first_of(wrong: Compared, k: usize) -> Compared
-    ensures { λ r. ⌜ r ≡ firstOf wrong k ⌝ }
+    ensures { λ r. ⌜ r ≡ firstWrongOf wrong k ⌝ }
 {
     match wrong {
         Compared::Same => Compared::Differs(k),

@@ -1,4 +1,4 @@
--- The lines of a program's input: document 01, "draws each LF-ended line of standard input (a last one without LF counts)".
+-- The lines of a program's input: document 01, "draws each LF-ended line of standard input (a last one without LF counts ..)".
 -- Assumes nothing.
 use Prim.Native.Nat.{ℕ}
 use mathlib.Core.Bool.{Bool, cond, not}

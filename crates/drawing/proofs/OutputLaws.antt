@@ -30,7 +30,7 @@ use Rattle.source.specs.Source.{Source, fontSource}
 use Rattle.source.specs.Counting.{countsOf}
 use Rattle.drawing.specs.declared.DrawAnswer.{DrawAnswer}
 use Rattle.drawing.specs.declared.DrawAnswer.the-variants.{Refused}
-use Rattle.drawing.specs.Drawing.{textCodes, lineOf, modeOf, linedText, unlined, linedFrom, linedBy, linedOf, withCounts, linedAnswer, bytesOf, PutOut}
+use Rattle.drawing.specs.Drawing.{textCodes, lineOf, modeOf, draws, refuses, linedText, unlined, linedRead, linedFrom, linedBy, linedOf, withCounts, linedAnswer, bytesOf, PutOut}
 use Rattle.drawing.specs.Steps.{Reached}
 
 -- A refusal leaves zeros.
@@ -79,8 +79,8 @@ module _ (y : Mode) (h : ℕ) (source : Source) (codes : List Code) (w : ℕ) (c
 
 -- A text from a source, by a control file that is read.
 module _ (y : Mode) (h : ℕ) (source : Source) (control text : List ℕ) (cs : List Command) (k : ℕ) (control-said : flc.control control ≡ flc.reads cs k) where
-  by-length : (b : Bool) → ltb maxText (length text) ≡ b → linedFrom y h source (flc.control control) text ≡ cond b (unlined (refusal textTooLong 0)) (linedText y h source (textCodes cs k text))
-  by-length b e = ap (λ (c : flc.ControlReading). linedFrom y h source c text) control-said ∙ ap (λ (x : Bool). cond x (unlined (refusal textTooLong 0)) (linedText y h source (textCodes cs k text))) e
+  by-length : (b : Bool) → ltb maxText (length text) ≡ b → linedFrom y h source (flc.control control) text ≡ linedRead y h source (cond b (refuses (refusal textTooLong 0)) (draws (textCodes cs k text)))
+  by-length b e = ap (λ (c : flc.ControlReading). linedFrom y h source c text) control-said ∙ ap (λ (x : Bool). linedRead y h source (cond x (refuses (refusal textTooLong 0)) (draws (textCodes cs k text)))) e
 
   -- 15: "text too long"
   pub source-long : maxText < length text → linedFrom y h source (flc.control control) text ≡ unlined (refusal textTooLong 0)

@@ -93,6 +93,15 @@ fontLine s h es commands stages text = lineOf (modeOf h) (h .height) (fontSource
 abbrev pub fontCounts : List ℕ → List Entry → List Command → ℕ → List ℕ → Counts
 fontCounts s es commands stages text = countsOf (fontSource s es) (textCodes commands stages text)
 
+-- "The control file's, 15": the codes that a text draws by a control file, or the refusal of one of them.
+pub data TextReading : Type 0 where
+  draws : List Code → TextReading
+  refuses : Refusal → TextReading
+
+abbrev pub readText : flc.ControlReading → List ℕ → TextReading
+readText (flc.refuses r) text = refuses r
+readText (flc.reads cs stages) text = cond (ltb maxText (length text)) (refuses (refusal textTooLong 0)) (draws (textCodes cs stages text))
+
 -- "Drawing: .. the font's, the control file's, 15, 16, then 9 for the output." A line of the given height that is to be put out, with its text's counts; or
 -- one of the first three.
 pub data Lined : Type 0 where
@@ -103,10 +112,13 @@ pub data Lined : Type 0 where
 abbrev pub linedText : Mode → ℕ → Source → List Code → Lined
 linedText y h source codes = lined y h (lineOf y h source codes) (countsOf source codes)
 
--- From a source on: the control file's, then 15.
+-- From a source on.
+abbrev pub linedRead : Mode → ℕ → Source → TextReading → Lined
+linedRead y h source (draws codes) = linedText y h source codes
+linedRead y h source (refuses r) = unlined r
+
 abbrev pub linedFrom : Mode → ℕ → Source → flc.ControlReading → List ℕ → Lined
-linedFrom y h source (flc.refuses r) text = unlined r
-linedFrom y h source (flc.reads cs stages) text = cond (ltb maxText (length text)) (unlined (refusal textTooLong 0)) (linedText y h source (textCodes cs stages text))
+linedFrom y h source control text = linedRead y h source (readText control text)
 
 abbrev pub linedBy : List ℕ → font.FontReading → flc.ControlReading → List ℕ → Lined
 linedBy s (font.refuses r) control text = unlined r
@@ -133,7 +145,7 @@ unfoldable pub bytesOf : Lined → ℕ → List ℕ
 bytesOf (unlined r) room = []
 bytesOf (lined y h l n) room = outputBytes (y .hardblank .0) h l room
 
--- "A refusal fills every lent writable area with zeros. A success fills all room behind its answer with zeros." The answer and the output, of the
+-- A refusal "fills every lent writable area with zeros. A success fills all room behind its answer, .. with zeros." The answer and the output, of the
 -- given room.
 pub record PutOut (l : Lined) (room : ℕ) (answer : DrawAnswer) (output : List ℕ) : Type 0 where
   pub answers : answer ≡ linedAnswer l room

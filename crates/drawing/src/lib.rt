@@ -90,11 +90,11 @@ pub fn mode_of(header: Header) -> Mode
 
 // Joins the character that was chosen for a code to the line, n wide, in the area; answers the new width. Its rows start at the places found. A line that
 // would be wider than the limit leaves the area as it was.
-pub fn draw_chosen(
+pub fn draw_chosen<'a>(
     area: &mut [u8],
     chosen: Chosen,
-    found: &[usize],
-    rows: &[usize],
+    found: &'a [usize],
+    rows: &'a [usize],
     n: usize,
     limit: usize,
     mode: Mode,
@@ -319,6 +319,57 @@ pub fn draw_from<'a>(
         places,
     );
     put_out(out, area, mode, height, drawn.width, counts)
+}
+
+// Draws a text from a source of characters and by a control file: its refusals, 15, 16, then 9 for the output.
+pub fn draw_mapped<'a>(
+    out: &mut [u8],
+    area: &mut [u8],
+    text: &[u8],
+    mode: Mode,
+    height: usize,
+    font: &'a [u8],
+    second: &'a [u8],
+    origin: Origin,
+    codes: &[i32],
+    starts: &[usize],
+    widths: &[usize],
+    places: &[usize],
+    control: &[u8],
+) -> DrawAnswer
+    requires { ⌜ ((source : Source) × Gives source (now font) (now second) height origin (now codes) (now starts) (now widths) (now places)) ⌝ }
+    requires { ⌜ minScratch ≤ length (now area) ⌝ }
+    ensures { λ a. ⌜ ((source : Source) → Gives source (now (font .entry)) (now (second .entry)) height origin (now (codes .entry)) (now (starts .entry)) (now (widths .entry)) (now (places .entry)) → PutOut (linedFrom mode height source (flc.control (now (control .entry))) (now (text .entry))) (length (now (out .entry))) a (now (out .exit))) ⌝ }
+{
+    let mut stages = [0usize; limits::MAX_COMMANDS];
+    let mut firsts = [0i32; limits::MAX_COMMANDS];
+    let mut lasts = [0i32; limits::MAX_COMMANDS];
+    let mut news = [0i32; limits::MAX_COMMANDS];
+    match flc::read_lists(control, &mut stages, &mut firsts, &mut lasts, &mut news) {
+        ControlAnswer::Read {
+            commands,
+            stages: _,
+        } => draw_from(
+            out,
+            area,
+            text,
+            mode,
+            height,
+            font,
+            second,
+            origin,
+            codes,
+            starts,
+            widths,
+            places,
+            commands,
+            &stages,
+            &firsts,
+            &lasts,
+            &news,
+        ),
+        ControlAnswer::Refused(r) => refuse(r, out),
+    }
 }
 
 // Draws a text by what reading the files gave; the lists hold it. Nothing is promised of what the area then holds.

@@ -23,13 +23,13 @@ use Rattle.font.specs.Font as font
 use Rattle.flc.specs.declared.Command.{Command}
 use Rattle.flc.specs.Control as flc
 use Rattle.source.specs.Source.{Source, fontSource}
-use Rattle.drawing.specs.Drawing.{textCodes, lineOf, traceOf, modeOf, Lined, unlined, linedBy, linedOf}
+use Rattle.drawing.specs.Drawing.{textCodes, lineOf, traceOf, modeOf, Lined, unlined, linedBy, linedOf, draws, refuses}
 use Rattle.drawing.specs.Steps.{Reached}
 use Rattle.checking.specs.declared.CheckAnswer.{CheckAnswer}
 use Rattle.checking.specs.declared.CheckAnswer.the-variants.{Refused}
 use Rattle.checking.specs.Verdict.{lineChecked}
 use Rattle.checking.proofs.VerdictLaws.{checked-like, line-16}
-use Rattle.drawingcheck.specs.CheckDrawing.{codesChecked, checkedFrom, checkedBy, checkedOf, drawingChecked}
+use Rattle.drawingcheck.specs.CheckDrawing.{codesChecked, checkedRead, checkedFrom, checkedBy, checkedOf, drawingChecked}
 
 -- From a source on.
 module _ (y : Mode) (h : ℕ) (source : Source) (control text overlaps figure : List ℕ) (cs : List Command) (k : ℕ) (c : flc.control control ≡ flc.reads cs k) where
@@ -40,10 +40,10 @@ module _ (y : Mode) (h : ℕ) (source : Source) (control text overlaps figure : 
   is-said = ap (λ (x : flc.ControlReading). checkedFrom y h source x text overlaps figure) c
 
   pub check-long : maxText < length text → Refused (refusal textTooLong 0) ≡ checkedFrom y h source (flc.control control) text overlaps figure
-  check-long l = sym (is-said ∙ ap (λ (b : Bool). cond b (Refused (refusal textTooLong 0)) (codesChecked y h source (textCodes cs k text) overlaps figure)) (lt-ltb maxText (length text) l))
+  check-long l = sym (is-said ∙ ap (λ (b : Bool). checkedRead y h source (cond b (refuses (refusal textTooLong 0)) (draws (textCodes cs k text))) overlaps figure) (lt-ltb maxText (length text) l))
 
   pub check-short : length text ≤ maxText → codesChecked y h source (textCodes cs k text) overlaps figure ≡ checkedFrom y h source (flc.control control) text overlaps figure
-  check-short l = sym (is-said ∙ ap (λ (b : Bool). cond b (Refused (refusal textTooLong 0)) (codesChecked y h source (textCodes cs k text) overlaps figure)) (le-ltb maxText (length text) l))
+  check-short l = sym (is-said ∙ ap (λ (b : Bool). checkedRead y h source (cond b (refuses (refusal textTooLong 0)) (draws (textCodes cs k text))) overlaps figure) (le-ltb maxText (length text) l))
 
 -- The line in the area, w wide, is checked as the line of the text.
 module _ (y : Mode) (h : ℕ) (source : Source) (codes : List Code) (overlaps figure : List ℕ) (w : ℕ) (area : List ℕ) (reached : Reached y h maxLineWidth w area (lineOf y h source codes)) where

@@ -6,14 +6,14 @@ use mathlib.Core.List.{List}
 use Prim.Native.Nat.{ℕ}
 use lib.Dec.{ltb}
 use lib.ListN.{length}
-use Rattle.ground.specs.Limits.{maxText, minScratch}
-use Rattle.ground.specs.Refusals.{refusal, areaTooSmall, textTooLong}
+use Rattle.ground.specs.Limits.{minScratch}
+use Rattle.ground.specs.Refusals.{refusal, areaTooSmall}
 use Rattle.subchars.specs.declared.Code.{Code}
 use Rattle.subchars.specs.declared.Mode.{Mode}
 use Rattle.font.specs.Font as font
 use Rattle.flc.specs.Control as flc
 use Rattle.source.specs.Source.{Source, fontSource}
-use Rattle.drawing.specs.Drawing.{textCodes, lineOf, traceOf, modeOf}
+use Rattle.drawing.specs.Drawing.{lineOf, traceOf, TextReading, draws, refuses, readText, modeOf}
 use Rattle.checking.specs.declared.CheckAnswer.{CheckAnswer}
 use Rattle.checking.specs.declared.CheckAnswer.the-variants.{Refused}
 use Rattle.checking.specs.Verdict.{lineChecked}
@@ -22,10 +22,13 @@ use Rattle.checking.specs.Verdict.{lineChecked}
 abbrev pub codesChecked : Mode → ℕ → Source → List Code → List ℕ → List ℕ → CheckAnswer
 codesChecked y h source codes overlaps figure = lineChecked (y .hardblank .0) h (lineOf y h source codes) (traceOf y h source codes .overlaps) overlaps figure
 
--- "Refusals: the drawing's, first": the control file's, then 15; before them the font's.
+-- "Refusals: the drawing's, first": the control file's, then 15, as in every drawing; before them the font's.
+abbrev pub checkedRead : Mode → ℕ → Source → TextReading → List ℕ → List ℕ → CheckAnswer
+checkedRead y h source (draws codes) overlaps figure = codesChecked y h source codes overlaps figure
+checkedRead y h source (refuses r) overlaps figure = Refused r
+
 abbrev pub checkedFrom : Mode → ℕ → Source → flc.ControlReading → List ℕ → List ℕ → List ℕ → CheckAnswer
-checkedFrom y h source (flc.refuses r) text overlaps figure = Refused r
-checkedFrom y h source (flc.reads cs k) text overlaps figure = cond (ltb maxText (length text)) (Refused (refusal textTooLong 0)) (codesChecked y h source (textCodes cs k text) overlaps figure)
+checkedFrom y h source control text overlaps figure = checkedRead y h source (readText control text) overlaps figure
 
 abbrev pub checkedBy : List ℕ → font.FontReading → flc.ControlReading → List ℕ → List ℕ → List ℕ → CheckAnswer
 checkedBy s (font.refuses r) control text overlaps figure = Refused r

@@ -20,7 +20,7 @@ use Rattle.records.specs.declared.Spot.{Spot}
 use Rattle.records.specs.declared.Spot.the-variants.{Free, Tail}
 use Rattle.records.specs.Versions.{recordHeadLength}
 use Rattle.records.specs.Records.{isLive, codeIn, widthIn, rowsIn, sizeIn, isLiveOf, isFreeOf, hasLive}
-use Rattle.records.specs.Steps.{placeIn, spotIn}
+use Rattle.records.specs.Places.{placeIn, spotIn}
 use Rattle.records.proofs.ListingLaws.{fine, width-behind, rows-behind}
 use Rattle.edits.specs.Changes.{joined, freed, removed, placed, hasFree, kept}
 use Rattle.records.specs.Letters.{Letter, letter, noLetter, letterIn}

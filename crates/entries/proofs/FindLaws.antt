@@ -25,7 +25,7 @@ use Rattle.reader.specs.declared.LookedUp.{LookedUp}
 use Rattle.reader.specs.declared.LookedUp.the-variants.{Found, StoodIn, Nothing}
 use Rattle.reader.specs.Reader.{entryAt, atFound, lastOf, whichOf, lookedUp}
 use Rattle.entries.specs.Filling.{zeroEntry}
-use Rattle.entries.specs.Finding.{entryTells, findTold}
+use Rattle.entries.specs.Finding.{entryTells, foundTold}
 use Rattle.entries.specs.Steps.{isFound, better}
 
 pub looked-none : (c : Code) → lookedUp c [] ≡ Nothing
@@ -108,8 +108,8 @@ module _ (c : Code) (u : LookedUp) (e : Entry) where
       better-none r = simp (p, q, r)
 
 -- A count beyond the list's end is its length.
-pub find-told : (c : Code) (es : List Entry) (count : ℕ) → entryTells (lookedUp c (take (min count (length es)) es)) ≡ findTold es count c
-unfolding findTold
+pub find-told : (c : Code) (es : List Entry) (count : ℕ) → entryTells (lookedUp c (take (min count (length es)) es)) ≡ foundTold es count c
+unfolding foundTold
 find-told c es count = ap (λ (l : List Entry). entryTells (lookedUp c l)) (go (ltb count (length es)) refl)
   where
     go : (b : Bool) → ltb count (length es) ≡ b → take (min count (length es)) es ≡ take count es

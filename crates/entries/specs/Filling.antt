@@ -25,7 +25,7 @@ fontReading room s = cond (ltb room maxCharacters) (refuses (refusal areaTooSmal
 abbrev pub zeroEntry : Entry
 zeroEntry = entry (code (pos 0)) 0 0
 
--- "A success fills all room behind its answer .. with zeros."
+-- "A success fills all room behind its answer, .. with zeros."
 abbrev pub withZeros : List Entry → ℕ → List Entry
 withZeros es room = es ++ replicate (room - length es) zeroEntry
 

@@ -26,5 +26,5 @@ entryTells (StoodIn e) = record { found = false; stoodIn = true; code = e .code 
 entryTells Nothing = record { found = false; stoodIn = false; code = pos 0; start = 0; width = 0 }
 
 -- Of the first entries of a list, as many as the count says; a count beyond the list's end is its length.
-unfoldable pub findTold : List Entry → ℕ → Code → EntryTold
-findTold es count c = entryTells (lookedUp c (take count es))
+unfoldable pub foundTold : List Entry → ℕ → Code → EntryTold
+foundTold es count c = entryTells (lookedUp c (take count es))

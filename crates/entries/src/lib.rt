@@ -10,7 +10,7 @@ use subchars::Code;
 ghost use mathlib.Core.Path.{_≡_};
 ghost use lib.ListN.{length};
 ghost use Rattle.entries.specs.Filling.{fontReading, indexOf, fontTells, fontTold};
-ghost use Rattle.entries.specs.Finding.{entryTells, findTold};
+ghost use Rattle.entries.specs.Finding.{entryTells, foundTold};
 
 // Reads a font into an index of 512 entries or more: its characters in file order, with zeros behind. A refusal (9, then 1 to 8) leaves the
 // index all zeros.
@@ -31,7 +31,7 @@ pub fn read_font(font: &[u8], index: &mut [Entry]) -> FontAnswer
 // Looks a code up in the first `count` entries of a list: the last that has it is found, or else the last with code 0 stands in. A count beyond the
 // list's end is its length.
 pub fn find_in(index: &[Entry], count: usize, code: Code) -> LookedUp
-    ensures answer { λ r. ⌜ entryTells r ≡ findTold (now (index .entry)) count code ⌝ }
+    ensures answer { λ r. ⌜ entryTells r ≡ foundTold (now (index .entry)) count code ⌝ }
 {
     let n = ground::smaller(count, index.len());
     let mut seen = LookedUp::Nothing;

@@ -1,7 +1,5 @@
 // Answers requests on standard input for stacks of two blocks and of two texts, for texts in lines, and for packs: every rule, both sides of each limit, and the
 // refusals in their order.
-mod drawings;
-mod packs;
 mod stacks;
 mod texts;
 mod wraps;
@@ -13,6 +11,8 @@ use asking::printing::text;
 use asking::row_of;
 use asking::shortened;
 use asking::word_of;
+use asking_packs::drawings;
+use asking_packs::packs;
 use libc::STDIN_FILENO;
 use lines::Cursor;
 use lines::LineStep;

@@ -13,7 +13,8 @@ use Rattle.records.specs.declared.Spot.{Spot}
 use Rattle.records.specs.Versions.{headLength, recordHeadLength}
 use Rattle.records.specs.Records.{Listing}
 use Rattle.records.specs.Letters.{letterIn}
-use Rattle.records.specs.Steps.{Walkable, placeIn, spotIn}
+use Rattle.records.specs.Places.{placeIn, spotIn}
+use Rattle.records.specs.Steps.{Walkable}
 use Rattle.records.proofs.WalkLaws.{recordsAt}
 use Rattle.edits.specs.Changes.{joined}
 use Rattle.edits.proofs.PlaceLaws.{readAt, place-inside, place-letter}

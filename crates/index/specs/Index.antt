@@ -1,5 +1,4 @@
--- The index of a font as three lists of numbers: document 01, "The lent index holds 512 entries or more: code, start of the first row line, width,
--- in file order, and the answer gives how many."
+-- The characters of a font in three lists of numbers, in file order, as the code holds them.
 -- Assumes nothing.
 use mathlib.Core.Path.{_≡_}
 use mathlib.Core.List.{List, map}

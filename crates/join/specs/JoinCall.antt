@@ -50,7 +50,7 @@ joinTold y h n line m character room =
     refuseIf (not (goodShape y h n (length line) m (length character))) badShape
     (toldOf y h (leftOf (y .direction) l c) (rightOf (y .direction) l c) room)
 
--- "A refusal fills every lent writable area with zeros. A success fills all room behind its answer with zeros."
+-- A refusal "fills every lent writable area with zeros. A success fills all room behind its answer, .. with zeros."
 abbrev pub areaOf : JoinTold → Block → ℕ → ℕ → List ℕ
 areaOf t f h room = padded (cond (t .refused) [] (rowsOf (f .cells) h (f .width))) room
 

@@ -14,7 +14,8 @@ use Rattle.records.specs.declared.Place.{Place}
 use Rattle.records.specs.declared.Place.the-variants.{At, Nowhere}
 use Rattle.records.specs.Versions.{headLength}
 use Rattle.records.specs.Records.{listing, ends}
-use Rattle.records.specs.Steps.{Walkable, placeIn}
+use Rattle.records.specs.Places.{placeIn}
+use Rattle.records.specs.Steps.{Walkable}
 use Rattle.records.proofs.WalkLaws.{recordsAt, Next, walk-on, place-here, place-next, place-none}
 use Rattle.heads.specs.Pack.{says, meaning}
 use Rattle.heads.proofs.FindLaws.{records-are}

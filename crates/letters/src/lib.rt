@@ -17,7 +17,8 @@ ghost use Rattle.index.specs.Latest.{smallCodes};
 ghost use Rattle.records.specs.Codes.{bitsOf};
 ghost use Rattle.records.specs.Versions.{headLength};
 ghost use Rattle.records.specs.Records.{listing};
-ghost use Rattle.records.specs.Steps.{Walkable, placeIn};
+ghost use Rattle.records.specs.Places.{placeIn};
+ghost use Rattle.records.specs.Steps.{Walkable};
 ghost use Rattle.heads.specs.Pack.{says, meaning};
 ghost use Rattle.letters.specs.Held.{heldAt, Noted, Held, LettersHeld};
 

@@ -25,7 +25,8 @@ use Rattle.records.specs.declared.Spot.the-variants.{Free, Tail}
 use Rattle.records.specs.Versions.{headLength, recordHeadLength, maxWidth}
 use Rattle.rows.specs.Rows.{legalByte}
 use Rattle.records.specs.Records.{minusOne, listing, Listing, hasLive, liveCount}
-use Rattle.records.specs.Steps.{Walkable, placeIn, isPlace, spotIn}
+use Rattle.records.specs.Places.{placeIn, isPlace, spotIn}
+use Rattle.records.specs.Steps.{Walkable}
 use Rattle.records.proofs.VersionLaws.{max-width-high}
 use Rattle.records.proofs.WalkLaws.{recordsAt, place-has}
 use Rattle.edits.specs.Changes.{joined, newRecord, removed, placed, hasFree, kept}

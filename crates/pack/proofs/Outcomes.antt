@@ -19,7 +19,7 @@ use Rattle.records.specs.declared.Spot.{Spot}
 use Rattle.records.specs.declared.Spot.the-variants.{Free, Tail}
 use Rattle.records.specs.Versions.{headLength}
 use Rattle.records.specs.Records.{minusOne, hasLive, liveCount}
-use Rattle.records.specs.Steps.{placeIn, isPlace, spotIn}
+use Rattle.records.specs.Places.{placeIn, isPlace, spotIn}
 use Rattle.records.proofs.WalkLaws.{place-has}
 use Rattle.edits.specs.Changes.{newRecord, removed, placed, kept}
 use Rattle.records.specs.Letters.{letter, noLetter}

@@ -19,7 +19,7 @@ use Rattle.records.specs.declared.Place.{Place}
 use Rattle.records.specs.declared.Place.the-variants.{At, Nowhere}
 use Rattle.records.specs.Versions.{headLength, recordHeadLength, maxWidth}
 use Rattle.records.specs.Records.{minusOne, hasLive, liveCount}
-use Rattle.records.specs.Steps.{placeIn, isPlace}
+use Rattle.records.specs.Places.{placeIn, isPlace}
 use Rattle.records.proofs.WalkLaws.{place-has}
 use Rattle.edits.specs.Changes.{joined, hasFree, removed, placed, newRecord, kept}
 use Rattle.heads.specs.Pack.{Pack, says, damaged, meaning}

@@ -19,7 +19,7 @@ use Rattle.records.specs.Versions.{headLength, recordHeadLength, maxWidth}
 use Rattle.records.proofs.VersionLaws.{head-length-low}
 use Rattle.rows.specs.Rows.{legalByte}
 use Rattle.records.specs.Records.{minusOne, isLive, codeIn, widthIn, rowsIn, isLiveOf, hasLive, noneTwice, Listing, listing}
-use Rattle.records.specs.Steps.{placeIn}
+use Rattle.records.specs.Places.{placeIn}
 use Rattle.edits.specs.Changes.{joined, newRecord, removed, placed, hasFree, kept}
 use Rattle.records.specs.Letters.{Letter, letter, noLetter, letterIn}
 use Rattle.edits.proofs.WriteLaws.{length-new}

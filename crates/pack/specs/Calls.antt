@@ -15,7 +15,7 @@ use Rattle.records.specs.declared.Place.the-variants.{At, Nowhere}
 use Rattle.records.specs.Versions.{headLength, recordHeadLength, maxWidth}
 use Rattle.rows.specs.Rows.{legalByte}
 use Rattle.records.specs.Records.{minusOne, hasLive, liveCount}
-use Rattle.records.specs.Steps.{placeIn}
+use Rattle.records.specs.Places.{placeIn}
 use Rattle.edits.specs.Changes.{joined, newRecord, removed, placed, hasFree, kept}
 use Rattle.records.specs.Letters.{Letter, letter, noLetter}
 use Rattle.heads.specs.Pack.{Pack, says, damaged, meaning, remade}
@@ -28,7 +28,7 @@ use Rattle.pack.specs.declared.FindAnswer.the-variants as sought
 use Rattle.pack.specs.declared.EditAnswer.{EditAnswer}
 use Rattle.pack.specs.declared.EditAnswer.the-variants as edited
 
--- Check.
+-- "Calls: check": "20 damaged pack"; of any other its height and how many live records it has.
 unfoldable pub checkTold : Pack → PackAnswer
 checkTold (says f rs) = checked.Accepted (f .height) (liveCount rs)
 checkTold damaged = checked.Refused (refusal damagedPack 0)
@@ -86,12 +86,12 @@ pub record Changes (x : Change) (old : List ℕ) (r : EditAnswer) (new : List �
   pub answer : r ≡ tells x
   pub bytes : new ≡ after old x
 
--- Remove.
+-- "Remove changes only the 1 to 2." "20 damaged pack, 17 for .. code -1, .. 22 code absent, .. in that order."
 unfoldable pub removal : Pack → ℕ → Change
 removal (says f rs) code = cond (eqb code minusOne) (refused badShape) (cond (hasLive code rs) (changed (removed code rs)) (refused codeAbsent))
 removal damaged code = refused damagedPack
 
--- Put.
+-- "17 for .. code -1 or a letter of such a width or row byte or not Height times width long": any other letter is good.
 unfoldable pub goodLetter : Head → ℕ → ℕ → List ℕ → Bool
 goodLetter f code width rows = not (eqb code minusOne) && (leb width (maxWidth (f .version)) && (eqb (length rows) (f .height * width) && all (legalByte (f .hardblank .0)) rows))
 
@@ -114,7 +114,7 @@ pub record Puttable (f : Head) (s : List ℕ) (code width : ℕ) (rows : List �
   pub letter : goodLetter f code width rows ≡ true
   pub small : code < 4294967296
 
--- Compact.
+-- "Compact drops free records, keeps the live ones in order."
 unfoldable pub compaction : Pack → Change
 compaction (says f rs) = changed (kept rs)
 compaction damaged = refused damagedPack

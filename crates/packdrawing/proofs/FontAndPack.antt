@@ -9,8 +9,8 @@ use lib.Dec.{eqb, leb, ltb}
 use lib.IntN.{ℤ, pos, negsuc}
 use lib.ListN.{length}
 use borrow.Author.Tests.{le-leb}
-use Rattle.ground.specs.Limits.{minScratch, maxText, maxRules}
-use Rattle.ground.specs.Refusals.{refusal, areaTooSmall, textTooLong}
+use Rattle.ground.specs.Limits.{minScratch, maxRules}
+use Rattle.ground.specs.Refusals.{refusal, areaTooSmall}
 use Rattle.subchars.specs.declared.Code.{Code}
 use Rattle.ground.proofs.Tests.{and-both}
 use Rattle.subchars.specs.declared.Mode.{Mode}
@@ -43,7 +43,7 @@ use Rattle.source.specs.declared.Counts.{Counts}
 use Rattle.source.specs.Source.{Choice, found, stoodIn, nothing, Source, choiceOf, fontSource, packLetter, ofLetters, packSource}
 use Rattle.source.specs.Counting.{isStoodIn, isNothing, one, howMany, countsOf}
 use Rattle.drawing.specs.declared.DrawAnswer.{DrawAnswer}
-use Rattle.drawing.specs.Drawing.{charactersOf, withChoice, lineOf, directionOf, modeOf, Lined, lined, unlined, linedText, linedFrom, linedOf, drawLined, textCodes, withCounts, linedAnswer, bytesOf}
+use Rattle.drawing.specs.Drawing.{charactersOf, withChoice, lineOf, directionOf, modeOf, TextReading, draws, refuses, readText, Lined, lined, unlined, linedRead, linedFrom, linedOf, drawLined, withCounts, linedAnswer, bytesOf}
 use Rattle.drawing.proofs.OutputLaws.{font-lined}
 use Rattle.packdrawing.specs.PackDrawing.{packMode, packOf, packLined, SameLetter, MadeOf}
 use Rattle.packdrawing.proofs.PackCases.{of-good-layout}
@@ -117,18 +117,11 @@ module _ (y : Mode) (h : ℕ) (a b : Source) (alike : (c : Code) → Alike h (a 
   -- so every control file and text come to the same answer and the same bytes
   pub same-lined : (control : flc.ControlReading) (text : List ℕ) (room : ℕ) → (linedAnswer (linedFrom y h a control text) room ≡ linedAnswer (linedFrom y h b control text) room) × (bytesOf (linedFrom y h a control text) room ≡ bytesOf (linedFrom y h b control text) room)
   unfolding linedAnswer bytesOf
-  same-lined (flc.refuses r) text room = (refl, refl)
-  same-lined (flc.reads cs k) text room = go (ltb maxText (length text))
+  same-lined control text room = go (readText control text)
     where
-      answers : linedAnswer (linedText y h a (textCodes cs k text)) room ≡ linedAnswer (linedText y h b (textCodes cs k text)) room
-      answers = ap₂ withCounts (counts-alike (textCodes cs k text)) (output-like h _ _ (line-like (textCodes cs k text)) room)
-
-      bytes : bytesOf (linedText y h a (textCodes cs k text)) room ≡ bytesOf (linedText y h b (textCodes cs k text)) room
-      bytes = bytes-like h _ _ (line-like (textCodes cs k text)) (y .hardblank .0) room
-
-      go : (x : Bool) → (linedAnswer (cond x (unlined (refusal textTooLong 0)) (linedText y h a (textCodes cs k text))) room ≡ linedAnswer (cond x (unlined (refusal textTooLong 0)) (linedText y h b (textCodes cs k text))) room) × (bytesOf (cond x (unlined (refusal textTooLong 0)) (linedText y h a (textCodes cs k text))) room ≡ bytesOf (cond x (unlined (refusal textTooLong 0)) (linedText y h b (textCodes cs k text))) room)
-      go true = (refl, refl)
-      go false = (answers, bytes)
+      go : (x : TextReading) → (linedAnswer (linedRead y h a x) room ≡ linedAnswer (linedRead y h b x) room) × (bytesOf (linedRead y h a x) room ≡ bytesOf (linedRead y h b x) room)
+      go (draws cs) = (ap₂ withCounts (counts-alike cs) (output-like h _ _ (line-like cs) room), bytes-like h _ _ (line-like cs) (y .hardblank .0) room)
+      go (refuses r) = (refl, refl)
 
 -- Every layout that the numbers of a header give is one that a join may take.
 old-good : (old : ℤ) → goodLayout (oldLayout old) ≡ true

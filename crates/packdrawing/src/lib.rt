@@ -1,6 +1,5 @@
 // Drawing a line of text from a pack.
 use drawing::DrawAnswer;
-use flc::ControlAnswer;
 use ground::limits;
 use ground::refusals;
 use ground::refusals::Refusal;
@@ -18,62 +17,11 @@ ghost use Prim.Native.Nat.{ℕ, _≤_};
 ghost use lib.ListN.{length};
 ghost use Rattle.ground.specs.Area.{zeros};
 ghost use Rattle.ground.specs.Limits.{minScratch};
-ghost use Rattle.flc.specs.Control.{control};
 ghost use Rattle.heads.specs.Pack.{says, meaning};
-ghost use Rattle.source.specs.Source.{Source};
-ghost use Rattle.source.specs.Held.{PackGives};
-ghost use Rattle.drawing.specs.Drawing.{linedFrom, PutOut};
+ghost use Rattle.drawing.specs.Drawing.{PutOut};
 ghost use Rattle.packdrawing.specs.PackDrawing.{packOf, packLined};
 
-// Draws a text from a pack whose letters are held: the control file's refusals, 15, 16, then 9 for the output.
-fn draw_held(
-    out: &mut [u8],
-    area: &mut [u8],
-    text: &[u8],
-    mode: Mode,
-    height: usize,
-    pack: &[u8],
-    starts: &[usize],
-    widths: &[usize],
-    file: &[u8],
-) -> DrawAnswer
-    requires { ⌜ ((source : Source) × PackGives source (now pack) height (now starts) (now widths)) ⌝ }
-    requires { ⌜ minScratch ≤ length (now area) ⌝ }
-    ensures { λ a. ⌜ ((source : Source) → PackGives source (now (pack .entry)) height (now (starts .entry)) (now (widths .entry)) → PutOut (linedFrom mode height source (control (now (file .entry))) (now (text .entry))) (length (now (out .entry))) a (now (out .exit))) ⌝ }
-{
-    let mut stages = [0usize; limits::MAX_COMMANDS];
-    let mut firsts = [0i32; limits::MAX_COMMANDS];
-    let mut lasts = [0i32; limits::MAX_COMMANDS];
-    let mut news = [0i32; limits::MAX_COMMANDS];
-    match flc::read_lists(file, &mut stages, &mut firsts, &mut lasts, &mut news) {
-        // A pack has no list of codes and no list of places: `firsts` and `stages`, which nothing reads, are lent in their stead.
-        ControlAnswer::Read {
-            commands,
-            stages: _,
-        } => drawing::draw_from(
-            out,
-            area,
-            text,
-            mode,
-            height,
-            pack,
-            pack,
-            Origin::Pack,
-            &firsts,
-            starts,
-            widths,
-            &stages,
-            commands,
-            &stages,
-            &firsts,
-            &lasts,
-            &news,
-        ),
-        ControlAnswer::Refused(r) => drawing::refuse(r, out),
-    }
-}
-
-// Draws a text from a pack that says a head: 17, then as above.
+// Draws a text from a pack that says a head: 17, then the control file's refusals, 15, 16, then 9 for the output.
 fn draw_opened(
     out: &mut [u8],
     area: &mut [u8],
@@ -98,8 +46,23 @@ fn draw_opened(
             direction,
             hardblank,
         };
-        let height = head.height;
-        return draw_held(out, area, text, mode, height, pack, &starts, &widths, file);
+        // A pack has no list of codes and none of places: lists that nothing reads are lent in their stead.
+        let codes = [0i32; 1];
+        return drawing::draw_mapped(
+            out,
+            area,
+            text,
+            mode,
+            head.height,
+            pack,
+            pack,
+            Origin::Pack,
+            &codes,
+            &starts,
+            &widths,
+            &starts,
+            file,
+        );
     }
     let number = refusals::BAD_SHAPE;
     drawing::refuse(Refusal { number, place: 0 }, out)

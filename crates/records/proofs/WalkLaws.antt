@@ -13,17 +13,22 @@ use Rattle.ground.proofs.Runs.{rest-is}
 use Rattle.ground.proofs.Tests.{clash}
 use Rattle.records.specs.declared.Head.{Head}
 use Rattle.records.specs.declared.Scan.{Scan}
-use Rattle.records.specs.declared.Scan.the-variants.{Record, End, Damaged}
+use Rattle.records.specs.declared.Scan.the-variants as scanned
 use Rattle.records.specs.declared.Skim.the-variants as skimmed
 use Rattle.records.specs.declared.Place.{Place}
-use Rattle.records.specs.declared.Place.the-variants.{At, Nowhere}
+use Rattle.records.specs.declared.Place.the-variants as place
 use Rattle.records.specs.declared.Spot.{Spot}
-use Rattle.records.specs.declared.Spot.the-variants.{Free, Tail}
+use Rattle.records.specs.declared.Spot.the-variants as spot
+use Rattle.records.specs.declared.Wanted.{Wanted}
+use Rattle.records.specs.declared.Wanted.the-variants.{Live, Free}
+use Rattle.records.specs.declared.Met.{Met}
+use Rattle.records.specs.declared.Met.the-variants.{At, End}
 use Rattle.records.specs.declared.Verdict.{Verdict}
 use Rattle.records.specs.declared.Verdict.the-variants.{Sound, Broken}
 use Rattle.records.specs.Versions.{recordHeadLength}
 use Rattle.records.specs.Records.{isLive, codeIn, widthIn, Listing, ends, withRecord, listing, isLiveOf, hasLive, noneTwice, liveCount, isFreeOf}
-use Rattle.records.specs.Steps.{scanOf, skimOf, Walkable, placeIn, isPlace, spotIn, counted, verdict}
+use Rattle.records.specs.Places.{placeIn, isPlace, spotIn}
+use Rattle.records.specs.Steps.{scanOf, skimOf, Walkable, isWanted, metIn, counted, verdict}
 use Rattle.records.proofs.ListingLaws.{Stands, scan-record, scan-end, scan-damaged, skim-scan, skim-scan-end}
 
 -- What the records from a place on are.
@@ -41,8 +46,35 @@ pub record Next (f : Head) (s : List ℕ) (at : ℕ) (live : Bool) (code width s
   pub some : 0 < size
   pub inside : at ≤ length s → at + size ≤ length s
 
+-- What is met where the live record of a code is wanted, and where a free one of a width is.
+abbrev pub placeOf : Met → Place
+placeOf (At at width) = place.At at width
+placeOf (End at) = place.Nowhere
+
+pub met-place : (f : Head) (code at : ℕ) (rs : List (List ℕ)) → placeOf (metIn f (Live code) at rs) ≡ placeIn f code at rs
+unfolding metIn placeIn isLiveOf
+met-place f code at [] = refl
+met-place f code at (r ∷ rs) = go (isLive r && eqb (codeIn r) code) (met-place f code (at + length r) rs)
+  where
+    go : (b : Bool) → placeOf (metIn f (Live code) (at + length r) rs) ≡ placeIn f code (at + length r) rs → placeOf (cond b (At at (widthIn f r)) (metIn f (Live code) (at + length r) rs)) ≡ cond b (place.At at (widthIn f r)) (placeIn f code (at + length r) rs)
+    go true e = refl
+    go false e = e
+
+abbrev pub spotOf : Met → Spot
+spotOf (At at width) = spot.Free at
+spotOf (End at) = spot.Tail at
+
+pub met-spot : (f : Head) (width at : ℕ) (rs : List (List ℕ)) → spotOf (metIn f (Free width) at rs) ≡ spotIn f width at rs
+unfolding metIn spotIn isFreeOf
+met-spot f width at [] = refl
+met-spot f width at (r ∷ rs) = go (not (isLive r) && eqb (widthIn f r) width) (met-spot f width (at + length r) rs)
+  where
+    go : (b : Bool) → spotOf (metIn f (Free width) (at + length r) rs) ≡ spotIn f width (at + length r) rs → spotOf (cond b (At at (widthIn f r)) (metIn f (Free width) (at + length r) rs)) ≡ cond b (spot.Free at) (spotIn f width (at + length r) rs)
+    go true e = refl
+    go false e = e
+
 module _ (f : Head) (s : List ℕ) (at : ℕ) where
-  pub next-at : (live : Bool) (code width size : ℕ) → Record live code width size ≡ scanOf f (take (length s - at) (drop at s)) → Next f s at live code width size
+  pub next-at : (live : Bool) (code width size : ℕ) → scanned.Record live code width size ≡ scanOf f (take (length s - at) (drop at s)) → Next f s at live code width size
   next-at live code width size e =
       let x = scan-record f (drop at s) live code width size (e ∙ ap (scanOf f) (rest-is s at)) in
       record {
@@ -56,10 +88,10 @@ module _ (f : Head) (s : List ℕ) (at : ℕ) where
         inside = λ h. omega (arith, x .inside, length-drop at s);
       }
 
-  pub end-at : End ≡ scanOf f (take (length s - at) (drop at s)) → listing f (drop at s) ≡ ends true
+  pub end-at : scanned.End ≡ scanOf f (take (length s - at) (drop at s)) → listing f (drop at s) ≡ ends true
   end-at e = scan-end f (drop at s) (e ∙ ap (scanOf f) (rest-is s at))
 
-  pub damaged-at : Damaged ≡ scanOf f (take (length s - at) (drop at s)) → listing f (drop at s) ≡ ends false
+  pub damaged-at : scanned.Damaged ≡ scanOf f (take (length s - at) (drop at s)) → listing f (drop at s) ≡ ends false
   damaged-at e = scan-damaged f (drop at s) (e ∙ ap (scanOf f) (rest-is s at))
 
   -- A walk over the heads alone.
@@ -79,12 +111,6 @@ module _ (f : Head) (s : List ℕ) (at : ℕ) where
     pub walk-on : (live : Bool) (code width size : ℕ) → Next f s at live code width size → Walkable f s (at + size)
     walk-on live code width size x = record { low = w .low; inside = x .inside (w .inside); whole = sym (ap (λ (y : Listing). y .whole) (x .listed)) ∙ w .whole }
 
-  -- A search for a live record.
-  module _ (code : ℕ) where
-    pub place-none : (b : Bool) → listing f (drop at s) ≡ ends b → placeIn f code at (recordsAt f s at) ≡ Nowhere
-    unfolding placeIn
-    place-none b e = ap (λ (x : Listing). placeIn f code at (x .records)) e
-
   module _ (live : Bool) (c width size : ℕ) (x : Next f s at live c width size) where
     r : List ℕ
     r = take size (drop at s)
@@ -92,36 +118,29 @@ module _ (f : Head) (s : List ℕ) (at : ℕ) where
     more : List (List ℕ)
     more = recordsAt f s (at + size)
 
-    place-step : (code : ℕ) → placeIn f code at (recordsAt f s at) ≡ cond (live && eqb c code) (At at width) (placeIn f code (at + size) more)
-    unfolding placeIn isLiveOf r more
-    place-step code =
-        ap (λ (y : Listing). placeIn f code at (y .records)) (x .listed) ∙
-        ap (λ (b : Bool). cond (b && eqb (codeIn r) code) (At at (widthIn f r)) (placeIn f code (at + length r) more)) (x .live-is) ∙
-        ap (λ (b : ℕ). cond (live && eqb b code) (At at (widthIn f r)) (placeIn f code (at + length r) more)) (x .code-is) ∙
-        ap (λ (b : ℕ). cond (live && eqb c code) (At at b) (placeIn f code (at + length r) more)) (x .width-is) ∙
-        ap (λ (b : ℕ). cond (live && eqb c code) (At at width) (placeIn f code (at + b) more)) (x .long)
+    -- The search for a record.
+    met-step : (wanted : Wanted) → metIn f wanted at (recordsAt f s at) ≡ cond (isWanted wanted live c width) (At at width) (metIn f wanted (at + size) more)
+    unfolding metIn r more
+    met-step wanted =
+        ap (λ (y : Listing). metIn f wanted at (y .records)) (x .listed) ∙
+        ap (λ (b : Bool). cond (isWanted wanted b (codeIn r) (widthIn f r)) (At at (widthIn f r)) (metIn f wanted (at + length r) more)) (x .live-is) ∙
+        ap (λ (b : ℕ). cond (isWanted wanted live b (widthIn f r)) (At at (widthIn f r)) (metIn f wanted (at + length r) more)) (x .code-is) ∙
+        ap (λ (b : ℕ). cond (isWanted wanted live c b) (At at b) (metIn f wanted (at + length r) more)) (x .width-is) ∙
+        ap (λ (b : ℕ). cond (isWanted wanted live c width) (At at width) (metIn f wanted (at + b) more)) (x .long)
 
-    pub place-here : (code : ℕ) → (live && eqb c code) ≡ true → placeIn f code at (recordsAt f s at) ≡ At at width
-    place-here code e = place-step code ∙ ap (λ (b : Bool). cond b (At at width) (placeIn f code (at + size) more)) e
+    pub met-here : (wanted : Wanted) → isWanted wanted live c width ≡ true → metIn f wanted at (recordsAt f s at) ≡ At at width
+    met-here wanted e = met-step wanted ∙ ap (λ (b : Bool). cond b (At at width) (metIn f wanted (at + size) more)) e
+
+    pub met-next : (wanted : Wanted) → isWanted wanted live c width ≡ false → metIn f wanted at (recordsAt f s at) ≡ metIn f wanted (at + size) (recordsAt f s (at + size))
+    unfolding more
+    met-next wanted e = met-step wanted ∙ ap (λ (b : Bool). cond b (At at width) (metIn f wanted (at + size) more)) e
+
+    -- so the search for the live record of a code
+    pub place-here : (code : ℕ) → (live && eqb c code) ≡ true → placeIn f code at (recordsAt f s at) ≡ place.At at width
+    place-here code e = sym (met-place f code at (recordsAt f s at)) ∙ ap placeOf (met-here (Live code) e)
 
     pub place-next : (code : ℕ) → (live && eqb c code) ≡ false → placeIn f code at (recordsAt f s at) ≡ placeIn f code (at + size) (recordsAt f s (at + size))
-    unfolding more
-    place-next code e = place-step code ∙ ap (λ (b : Bool). cond b (At at width) (placeIn f code (at + size) more)) e
-
-    spot-step : (w : ℕ) → spotIn f w at (recordsAt f s at) ≡ cond (not live && eqb width w) (Free at) (spotIn f w (at + size) more)
-    unfolding spotIn isFreeOf r more
-    spot-step w =
-        ap (λ (y : Listing). spotIn f w at (y .records)) (x .listed) ∙
-        ap (λ (b : Bool). cond (not b && eqb (widthIn f r) w) (Free at) (spotIn f w (at + length r) more)) (x .live-is) ∙
-        ap (λ (b : ℕ). cond (not live && eqb b w) (Free at) (spotIn f w (at + length r) more)) (x .width-is) ∙
-        ap (λ (b : ℕ). cond (not live && eqb width w) (Free at) (spotIn f w (at + b) more)) (x .long)
-
-    pub spot-here : (w : ℕ) → (not live && eqb width w) ≡ true → spotIn f w at (recordsAt f s at) ≡ Free at
-    spot-here w e = spot-step w ∙ ap (λ (b : Bool). cond b (Free at) (spotIn f w (at + size) more)) e
-
-    pub spot-next : (w : ℕ) → (not live && eqb width w) ≡ false → spotIn f w at (recordsAt f s at) ≡ spotIn f w (at + size) (recordsAt f s (at + size))
-    unfolding more
-    spot-next w e = spot-step w ∙ ap (λ (b : Bool). cond b (Free at) (spotIn f w (at + size) more)) e
+    place-next code e = sym (met-place f code at (recordsAt f s at)) ∙ ap placeOf (met-next (Live code) e) ∙ met-place f code (at + size) (recordsAt f s (at + size))
 
     -- The count of the live records, if all are good.
     pub counted-next : (n : ℕ) → counted n (listing f (drop at s)) ≡ counted (n + cond live 1 0) (listing f (drop (at + size) s))
@@ -148,9 +167,12 @@ module _ (f : Head) (s : List ℕ) (at : ℕ) where
     unfolding more
     twice-next e = twice-step ∙ ap (λ (b : Bool). not b && noneTwice more) e
 
-  pub spot-none : (w : ℕ) (b : Bool) → listing f (drop at s) ≡ ends b → spotIn f w at (recordsAt f s at) ≡ Tail at
-  unfolding spotIn
-  spot-none w b e = ap (λ (x : Listing). spotIn f w at (x .records)) e
+  pub met-none : (wanted : Wanted) (b : Bool) → listing f (drop at s) ≡ ends b → metIn f wanted at (recordsAt f s at) ≡ End at
+  unfolding metIn
+  met-none wanted b e = ap (λ (x : Listing). metIn f wanted at (x .records)) e
+
+  pub place-none : (code : ℕ) (b : Bool) → listing f (drop at s) ≡ ends b → placeIn f code at (recordsAt f s at) ≡ place.Nowhere
+  place-none code b e = sym (met-place f code at (recordsAt f s at)) ∙ ap placeOf (met-none (Live code) b e)
 
   pub twice-none : (b : Bool) → listing f (drop at s) ≡ ends b → noneTwice (recordsAt f s at) ≡ true
   unfolding noneTwice
@@ -200,7 +222,7 @@ unfolding placeIn hasLive
 place-has f code at [] = refl
 place-has f code at (r ∷ rs) = go (isLiveOf code r) (place-has f code (at + length r) rs)
   where
-    go : (b : Bool) → isPlace (placeIn f code (at + length r) rs) ≡ hasLive code rs → isPlace (cond b (At at (widthIn f r)) (placeIn f code (at + length r) rs)) ≡ (b || hasLive code rs)
+    go : (b : Bool) → isPlace (placeIn f code (at + length r) rs) ≡ hasLive code rs → isPlace (cond b (place.At at (widthIn f r)) (placeIn f code (at + length r) rs)) ≡ (b || hasLive code rs)
     go true e = refl
     go false e = e
 

@@ -2,27 +2,28 @@
 -- Assumes nothing.
 use mathlib.Core.Path.{_≡_}
 use Prim.Native.Nat.{ℕ, _+_, _≤_}
-use mathlib.Core.Bool.{Bool, true, false, cond, _&&_}
+use mathlib.Core.Bool.{Bool, true, cond, not, _&&_}
 use mathlib.Core.List.{List, [], _∷_}
+use lib.Dec.{eqb}
 use lib.ListN.{length, drop}
 use Rattle.ground.specs.Limits.{maxHeight}
 use Rattle.ground.specs.Runs.{all}
 use Rattle.records.specs.declared.Head.{Head}
 use Rattle.records.specs.declared.Scan.{Scan}
-use Rattle.records.specs.declared.Scan.the-variants.{Record, End, Damaged}
+use Rattle.records.specs.declared.Scan.the-variants as scanned
 use Rattle.records.specs.declared.Skim.{Skim}
 use Rattle.records.specs.declared.Skim.the-variants as skimmed
-use Rattle.records.specs.declared.Place.{Place}
-use Rattle.records.specs.declared.Place.the-variants.{At, Nowhere}
-use Rattle.records.specs.declared.Spot.{Spot}
-use Rattle.records.specs.declared.Spot.the-variants.{Free, Tail}
+use Rattle.records.specs.declared.Wanted.{Wanted}
+use Rattle.records.specs.declared.Wanted.the-variants.{Live, Free}
+use Rattle.records.specs.declared.Met.{Met}
+use Rattle.records.specs.declared.Met.the-variants.{At, End}
 use Rattle.records.specs.declared.Verdict.{Verdict}
 use Rattle.records.specs.declared.Verdict.the-variants.{Sound, Broken}
-use Rattle.records.specs.Records.{isZero, isLive, codeIn, widthIn, sizeIn, goodRecord, Listing, listing, isLiveOf, isFreeOf, noneTwice, liveCount}
+use Rattle.records.specs.Records.{isZero, isLive, codeIn, widthIn, sizeIn, goodRecord, Listing, listing, noneTwice, liveCount}
 
 -- What stands at the start of a list.
 unfoldable pub scanOf : Head → List ℕ → Scan
-scanOf f t = cond (all isZero t) End (cond (goodRecord f t) (Record (isLive t) (codeIn t) (widthIn f t) (sizeIn f t)) Damaged)
+scanOf f t = cond (all isZero t) scanned.End (cond (goodRecord f t) (scanned.Record (isLive t) (codeIn t) (widthIn f t) (sizeIn f t)) scanned.Damaged)
 
 -- The same of a list that is known to be whole: there is no third case.
 unfoldable pub skimOf : Head → List ℕ → Skim
@@ -34,19 +35,15 @@ pub record Walkable (f : Head) (s : List ℕ) (from : ℕ) : Type 0 where
   pub inside : from ≤ length s
   pub whole : listing f (drop from s) .whole ≡ true
 
--- The first live record of a code: where it starts, where the first record starts at a place, and its width.
-unfoldable pub placeIn : Head → ℕ → ℕ → List (List ℕ) → Place
-placeIn f code at [] = Nowhere
-placeIn f code at (r ∷ rs) = cond (isLiveOf code r) (At at (widthIn f r)) (placeIn f code (at + length r) rs)
+-- Whether a record is the one that a walk seeks.
+abbrev pub isWanted : Wanted → Bool → ℕ → ℕ → Bool
+isWanted (Live c) live code width = live && eqb code c
+isWanted (Free w) live code width = not live && eqb width w
 
-abbrev pub isPlace : Place → Bool
-isPlace (At p w) = true
-isPlace Nowhere = false
-
--- "The first free record of the same width, else the tail".
-unfoldable pub spotIn : Head → ℕ → ℕ → List (List ℕ) → Spot
-spotIn f width at [] = Tail at
-spotIn f width at (r ∷ rs) = cond (isFreeOf f width r) (Free at) (spotIn f width (at + length r) rs)
+-- The first record that is wanted, where the first record starts at a place.
+unfoldable pub metIn : Head → Wanted → ℕ → List (List ℕ) → Met
+metIn f wanted at [] = End at
+metIn f wanted at (r ∷ rs) = cond (isWanted wanted (isLive r) (codeIn r) (widthIn f r)) (At at (widthIn f r)) (metIn f wanted (at + length r) rs)
 
 -- The number of live records, after n of them, if each record is good and all is zero behind the last.
 unfoldable pub counted : ℕ → Listing → Verdict

@@ -14,7 +14,8 @@ ghost use Rattle.ground.specs.Runs.{all};
 ghost use Rattle.records.specs.Codes.{bitsOf};
 ghost use Rattle.records.specs.Versions.{headLength, widthLength, recordHeadLength, maxWidth};
 ghost use Rattle.records.specs.Records.{isZero, goodFields, listing, hasLive, noneTwice};
-ghost use Rattle.records.specs.Steps.{scanOf, skimOf, Walkable, placeIn, isPlace, spotIn, counted, verdict};
+ghost use Rattle.records.specs.Places.{placeIn, isPlace, spotIn};
+ghost use Rattle.records.specs.Steps.{scanOf, skimOf, Walkable, isWanted, metIn, counted, verdict};
 
 // What the head of a pack says.
 pub struct Head {
@@ -56,6 +57,18 @@ pub enum Place {
 pub enum Spot {
     Free(usize),
     Tail(usize),
+}
+
+// What a walk over the records seeks: the live record of a code, or a free one of a width.
+pub enum Wanted {
+    Live(usize),
+    Free(usize),
+}
+
+// Where the first record that is wanted starts, and its width, or else where the records end.
+pub enum Met {
+    At { at: usize, width: usize },
+    End(usize),
 }
 
 // How many records are live, if all is well with the records.
@@ -200,29 +213,50 @@ pub fn skim_part(head: Head, t: &[u8]) -> Skim
     }
 }
 
-// Where the live record of a code is, from a place on.
-pub fn find_from(head: Head, s: &[u8], from: usize, code: usize) -> Place
+// Whether a record is the one that is wanted.
+fn is_wanted(wanted: Wanted, live: bool, code: usize, width: usize) -> bool
+    ensures { λ r. ⌜ r ≡ isWanted wanted live code width ⌝ }
+{
+    match wanted {
+        Wanted::Live(c) => both(live, code == c),
+        Wanted::Free(w) => both(!live, width == w),
+    }
+}
+
+// The first record that is wanted, from a place on.
+fn first_from(head: Head, s: &[u8], from: usize, wanted: Wanted) -> Met
     requires { ⌜ Walkable head (now s) from ⌝ }
-    ensures { λ r. ⌜ r ≡ placeIn head code from (listing head (drop from (now (s .entry))) .records) ⌝ }
+    ensures { λ r. ⌜ r ≡ metIn head wanted from (listing head (drop from (now (s .entry))) .records) ⌝ }
 {
     let mut at = from;
     loop {
         match skim_part(head, &s[at..]) {
             Skim::Record {
                 live,
-                code: c,
+                code,
                 width,
                 size,
             } => {
-                if both(live, c == code) {
-                    return Place::At { at, width };
+                if is_wanted(wanted, live, code, width) {
+                    return Met::At { at, width };
                 }
                 at += size;
             }
             Skim::End => {
-                return Place::Nowhere;
+                return Met::End(at);
             }
         }
+    }
+}
+
+// Where the live record of a code is, from a place on.
+pub fn find_from(head: Head, s: &[u8], from: usize, code: usize) -> Place
+    requires { ⌜ Walkable head (now s) from ⌝ }
+    ensures { λ r. ⌜ r ≡ placeIn head code from (listing head (drop from (now (s .entry))) .records) ⌝ }
+{
+    match first_from(head, s, from, Wanted::Live(code)) {
+        Met::At { at, width } => Place::At { at, width },
+        Met::End(_) => Place::Nowhere,
     }
 }
 
@@ -231,24 +265,9 @@ pub fn spot_from(head: Head, s: &[u8], from: usize, width: usize) -> Spot
     requires { ⌜ Walkable head (now s) from ⌝ }
     ensures { λ r. ⌜ r ≡ spotIn head width from (listing head (drop from (now (s .entry))) .records) ⌝ }
 {
-    let mut at = from;
-    loop {
-        match skim_part(head, &s[at..]) {
-            Skim::Record {
-                live,
-                code: _,
-                width: w,
-                size,
-            } => {
-                if both(!live, w == width) {
-                    return Spot::Free(at);
-                }
-                at += size;
-            }
-            Skim::End => {
-                return Spot::Tail(at);
-            }
-        }
+    match first_from(head, s, from, Wanted::Free(width)) {
+        Met::At { at, width: _ } => Spot::Free(at),
+        Met::End(at) => Spot::Tail(at),
     }
 }
 

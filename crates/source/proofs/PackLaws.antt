@@ -20,7 +20,7 @@ use Rattle.records.specs.declared.Place.the-variants.{At, Nowhere}
 use Rattle.records.specs.Codes.{bitsOf, isCode}
 use Rattle.records.specs.Versions.{headLength, recordHeadLength}
 use Rattle.records.specs.Letters.{Letter, letter, noLetter, letterIn}
-use Rattle.records.specs.Steps.{placeIn, isPlace}
+use Rattle.records.specs.Places.{placeIn, isPlace}
 use Rattle.edits.proofs.PlaceLaws.{readAt}
 use Rattle.heads.specs.Pack.{headIn, Pack, says, meaning}
 use Rattle.heads.proofs.FindLaws.{head-is, short, some, low, place-in, letter-there}

@@ -22,7 +22,7 @@ use Rattle.source.specs.declared.two.Which.{Which}
 use Rattle.source.specs.declared.two.Which.the-variants.{First, Second}
 use Rattle.source.specs.declared.two.LookedUpInTwo.{LookedUpInTwo}
 use Rattle.source.specs.declared.two.LookedUpInTwo.the-variants.{Found, StoodIn, Nothing}
-use Rattle.source.specs.TwoFonts.{firstOf, lookedUpInTwo, bytesIn}
+use Rattle.source.specs.TwoFonts.{firstTry, lookedUpInTwo, bytesIn}
 use Rattle.source.specs.Source.{nothing, Source, characterOf, choiceOfTwo, twoSource}
 use Rattle.source.specs.Counting.{isStoodIn, isNothing, StandsIn}
 use Rattle.source.specs.Held.{TwoHeld, TwoGives}
@@ -39,7 +39,7 @@ second-held s t h k n m codes starts widths places held =
     rw (part-behind maxCharacters codes, part-behind maxCharacters starts, part-behind maxCharacters widths, part-behind smallCodes places) (held .second .long, held .second .lists, held .second .latest)
 
 -- The four tries are what both look-ups come to.
-either-try : (a b z w : Use) → eitherOf (whichOf a z) (whichOf b w) ≡ firstOf a b z w
+either-try : (a b z w : Use) → eitherOf (whichOf a z) (whichOf b w) ≡ firstTry a b z w
 either-try (last.Used e) b z w = refl
 either-try last.Nothing (last.Used f) (last.Used d) w = refl
 either-try last.Nothing (last.Used f) last.Nothing w = refl
@@ -74,7 +74,7 @@ module _ (c : Code) (es fs : List Entry) where
   unfolding lookedUpInTwo
   among-two = go (lastOf (c .0) es) refl (lastOf (c .0) fs) refl (lastOf (pos 0) es) refl (lastOf (pos 0) fs) refl
     where
-      go : (a : Use) → lastOf (c .0) es ≡ a → (b : Use) → lastOf (c .0) fs ≡ b → (z : Use) → lastOf (pos 0) es ≡ z → (w : Use) → lastOf (pos 0) fs ≡ w → AmongTwo es fs (firstOf a b z w)
+      go : (a : Use) → lastOf (c .0) es ≡ a → (b : Use) → lastOf (c .0) fs ≡ b → (z : Use) → lastOf (pos 0) es ≡ z → (w : Use) → lastOf (pos 0) fs ≡ w → AmongTwo es fs (firstTry a b z w)
       go (last.Used e) p b q z r w t = among (c .0) es e p
       go last.Nothing p (last.Used e) q z r w t = among (c .0) fs e q
       go last.Nothing p last.Nothing q (last.Used e) r w t = among (pos 0) es e r
@@ -122,17 +122,17 @@ isThere (StoodIn w e) = true
 isThere Nothing = false
 
 module _ (s t : List ℕ) (es fs : List Entry) where
-  no-gap-first : (a b w : Use) (d : Entry) → isNothing (choiceOfTwo s t (firstOf a b (last.Used d) w)) ≡ false
+  no-gap-first : (a b w : Use) (d : Entry) → isNothing (choiceOfTwo s t (firstTry a b (last.Used d) w)) ≡ false
   no-gap-first (last.Used e) b w d = refl
   no-gap-first last.Nothing (last.Used f) w d = refl
   no-gap-first last.Nothing last.Nothing w d = refl
 
-  no-gap-second : (a b : Use) (d : Entry) → isNothing (choiceOfTwo s t (firstOf a b last.Nothing (last.Used d))) ≡ false
+  no-gap-second : (a b : Use) (d : Entry) → isNothing (choiceOfTwo s t (firstTry a b last.Nothing (last.Used d))) ≡ false
   no-gap-second (last.Used e) b d = refl
   no-gap-second last.Nothing (last.Used f) d = refl
   no-gap-second last.Nothing last.Nothing d = refl
 
-  no-stand-in : (a b : Use) → isStoodIn (choiceOfTwo s t (firstOf a b last.Nothing last.Nothing)) ≡ false
+  no-stand-in : (a b : Use) → isStoodIn (choiceOfTwo s t (firstTry a b last.Nothing last.Nothing)) ≡ false
   no-stand-in (last.Used e) b = refl
   no-stand-in last.Nothing (last.Used f) = refl
   no-stand-in last.Nothing last.Nothing = refl
@@ -141,10 +141,10 @@ module _ (s t : List ℕ) (es fs : List Entry) where
   unfolding lookedUpInTwo twoSource
   two-stand-in = go (lastOf (pos 0) es) refl (lastOf (pos 0) fs) refl
     where
-      go : (z : Use) → lastOf (pos 0) es ≡ z → (w : Use) → lastOf (pos 0) fs ≡ w → StandsIn (isThere (firstOf z w z w)) (twoSource s t es fs)
-      go (last.Used d) p w q = none-of (twoSource s t es fs) isNothing (λ c. ap (λ (z : Use). isNothing (choiceOfTwo s t (firstOf (lastOf (c .0) es) (lastOf (c .0) fs) z (lastOf (pos 0) fs)))) p ∙ no-gap-first (lastOf (c .0) es) (lastOf (c .0) fs) (lastOf (pos 0) fs) d)
-      go last.Nothing p (last.Used d) q = none-of (twoSource s t es fs) isNothing (λ c. (λ i. isNothing (choiceOfTwo s t (firstOf (lastOf (c .0) es) (lastOf (c .0) fs) (p i) (q i)))) ∙ no-gap-second (lastOf (c .0) es) (lastOf (c .0) fs) d)
-      go last.Nothing p last.Nothing q = none-of (twoSource s t es fs) isStoodIn (λ c. (λ i. isStoodIn (choiceOfTwo s t (firstOf (lastOf (c .0) es) (lastOf (c .0) fs) (p i) (q i)))) ∙ no-stand-in (lastOf (c .0) es) (lastOf (c .0) fs))
+      go : (z : Use) → lastOf (pos 0) es ≡ z → (w : Use) → lastOf (pos 0) fs ≡ w → StandsIn (isThere (firstTry z w z w)) (twoSource s t es fs)
+      go (last.Used d) p w q = none-of (twoSource s t es fs) isNothing (λ c. ap (λ (z : Use). isNothing (choiceOfTwo s t (firstTry (lastOf (c .0) es) (lastOf (c .0) fs) z (lastOf (pos 0) fs)))) p ∙ no-gap-first (lastOf (c .0) es) (lastOf (c .0) fs) (lastOf (pos 0) fs) d)
+      go last.Nothing p (last.Used d) q = none-of (twoSource s t es fs) isNothing (λ c. (λ i. isNothing (choiceOfTwo s t (firstTry (lastOf (c .0) es) (lastOf (c .0) fs) (p i) (q i)))) ∙ no-gap-second (lastOf (c .0) es) (lastOf (c .0) fs) d)
+      go last.Nothing p last.Nothing q = none-of (twoSource s t es fs) isStoodIn (λ c. (λ i. isStoodIn (choiceOfTwo s t (firstTry (lastOf (c .0) es) (lastOf (c .0) fs) (p i) (q i)))) ∙ no-stand-in (lastOf (c .0) es) (lastOf (c .0) fs))
 
 -- Whether one has a code 0 is what looking it up tells.
 pub told-stands-in : (source : Source) (s t : List ℕ) (height n m : ℕ) (codes : List ℤ) (starts widths places : List ℕ) (g : TwoGives source s t height n m codes starts widths places) (r : LookedUpInTwo) →

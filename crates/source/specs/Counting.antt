@@ -37,7 +37,7 @@ howMany group source (c ∷ cs) = one (group (source c)) + howMany group source 
 unfoldable pub countsOf : Source → List Code → Counts
 countsOf source codes = record { «stood_in» = howMany isStoodIn source codes; «nothing_drawn» = howMany isNothing source codes }
 
--- "A refusal tells 0 and 0."
+-- A refusal tells 0 and 0.
 abbrev pub noCounts : Counts
 noCounts = record { «stood_in» = 0; «nothing_drawn» = 0 }
 

@@ -1,4 +1,4 @@
--- Where the characters of a drawing come from, and what the lists of a font hold of it.
+-- Where the characters of a drawing come from, a font, two fonts or a pack, how many codes were replaced, and what the lists hold of it.
 pub mod TwoFonts
 pub mod Source
 pub mod Counting

@@ -50,7 +50,7 @@ choiceOfTwo s t two.Nothing = nothing
 unfoldable pub twoSource : List ℕ → List ℕ → List Entry → List Entry → Source
 twoSource s t es fs c = choiceOfTwo s t (lookedUpInTwo c es fs)
 
--- The letter that a pack's records have for a code: 02, Q-6, "the code in four bytes".
+-- The letter that a pack's records have for a code: 02, Q-6, "the code in four bytes"; a number that is no code has none.
 unfoldable pub packLetter : Head → List (List ℕ) → ℤ → Letter
 packLetter f rs z = cond (isCode z) (letterIn f (bitsOf z) rs) noLetter
 

@@ -15,16 +15,16 @@ use Rattle.source.specs.declared.two.LookedUpInTwo.{LookedUpInTwo}
 use Rattle.source.specs.declared.two.LookedUpInTwo.the-variants.{Found, StoodIn, Nothing}
 
 -- The first of the four tries that has an entry: the code in the first font and in the second, code 0 in the first and in the second.
-abbrev pub firstOf : Use → Use → Use → Use → LookedUpInTwo
-firstOf (last.Used e) its zeroth other = Found First e
-firstOf last.Nothing (last.Used e) zeroth other = Found Second e
-firstOf last.Nothing last.Nothing (last.Used e) other = StoodIn First e
-firstOf last.Nothing last.Nothing last.Nothing (last.Used e) = StoodIn Second e
-firstOf last.Nothing last.Nothing last.Nothing last.Nothing = Nothing
+abbrev pub firstTry : Use → Use → Use → Use → LookedUpInTwo
+firstTry (last.Used e) its zeroth other = Found First e
+firstTry last.Nothing (last.Used e) zeroth other = Found Second e
+firstTry last.Nothing last.Nothing (last.Used e) other = StoodIn First e
+firstTry last.Nothing last.Nothing last.Nothing (last.Used e) = StoodIn Second e
+firstTry last.Nothing last.Nothing last.Nothing last.Nothing = Nothing
 
 -- The characters of the first font are es, those of the second fs. As in one font, the last entry of a code is the code's own.
 unfoldable pub lookedUpInTwo : Code → List Entry → List Entry → LookedUpInTwo
-lookedUpInTwo c es fs = firstOf (lastOf (c .0) es) (lastOf (c .0) fs) (lastOf (pos 0) es) (lastOf (pos 0) fs)
+lookedUpInTwo c es fs = firstTry (lastOf (c .0) es) (lastOf (c .0) fs) (lastOf (pos 0) es) (lastOf (pos 0) fs)
 
 -- "Whichever font had it": the bytes of the first font are s, those of the second t.
 abbrev pub bytesIn : Which → List ℕ → List ℕ → List ℕ

@@ -14,7 +14,7 @@ ghost use lib.ListN.{length};
 ghost use Rattle.ground.specs.Limits.{maxHeight, minPackLength};
 ghost use Rattle.records.specs.Codes.{bitsOf};
 ghost use Rattle.records.specs.Versions.{headLength};
-ghost use Rattle.records.specs.Steps.{placeIn};
+ghost use Rattle.records.specs.Places.{placeIn};
 ghost use Rattle.heads.specs.Pack.{headIn, says, meaning};
 ghost use Rattle.letters.specs.Held.{orElse, LettersHeld};
 ghost use Rattle.source.specs.Source.{Source};

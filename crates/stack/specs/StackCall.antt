@@ -52,7 +52,7 @@ fitTold s needed room =
     noStackIf (ltb maxStackHeight (s .height)) stackTooHigh
     (noStackIf (ltb room needed) areaTooSmall (stackTells (Stacked (s .overlap) (s .height) (s .block .width))))
 
--- "A refusal fills every lent writable area with zeros. A success fills all room behind its answer with zeros."
+-- A refusal "fills every lent writable area with zeros. A success fills all room behind its answer, .. with zeros."
 abbrev pub areaAfter : StackTold → List ℕ → ℕ → List ℕ
 areaAfter t bytes room = padded (cond (t .refused) [] bytes) room
 

@@ -9,11 +9,11 @@ use native.Mathlib.Omega.{arith}
 use lib.Dec.{eqb}
 use lib.Bits.{bitAnd, and-high, and-zero-r}
 use borrow.Author.Tests.{eq-eqb, ne-eqb, eqb-true, eqb-false}
-use Rattle.ground.proofs.Tests.{same-test}
+use Rattle.ground.proofs.Tests.{same-test, never-both}
 use Rattle.subchars.specs.declared.Rule.{Rule}
 use Rattle.subchars.specs.declared.Rule.the-variants.{EqualCharacter, Underscore, Hierarchy, OppositePair, BigX, Hardblank}
 use Rattle.subchars.specs.declared.Joint.the-variants.{Unjoinable}
-use Rattle.subchars.specs.Pair.{isSome, byRule, ruleNumber, rules, inSet, controlled, isJoined}
+use Rattle.subchars.specs.Pair.{isSome, byRule, ruleNumber, rules, inSet, controlled, isJoined, byteOf}
 use Rattle.subchars.specs.Steps.{rulesJoining, itsRule, kept}
 use Rattle.subchars.proofs.Rules.{is-some, joined-by-only, listed, by, every-rule, Tried, joined, unjoined, by-any, controlled-by, kept-all}
 use Rattle.subchars.proofs.Deciding.{same-number}
@@ -96,3 +96,11 @@ module _ (h l r : ℕ) where
         go : Masked (bitAnd set (rulesJoining h l r)) → not (eqb (bitAnd set (rulesJoining h l r)) 0) ≡ isJoined (controlled set h l r)
         go (ruled p x m e j) = rw (ne-eqb (bitAnd set (rulesJoining h l r)) 0 (λ z. positive-not p (sym m ∙ z))) (ap isJoined j)
         go (unruled m j) = rw (eq-eqb (bitAnd set (rulesJoining h l r)) 0 m) (ap isJoined j)
+
+    -- of a pair that joins, the byte is what its rule makes of it
+    pub ruled-joint : (z : ℕ) → ((x : ℕ) (p : Rule) → byRule p h l r ≡ some x → z ≡ x) → isJoined (controlled set h l r) ≡ true → z ≡ byteOf (controlled set h l r)
+    ruled-joint z f t = go masked
+      where
+        go : Masked (bitAnd set (rulesJoining h l r)) → z ≡ byteOf (controlled set h l r)
+        go (ruled p x m e j) = f x p e ∙ ap byteOf j
+        go (unruled m j) = absurd (never-both (isJoined (controlled set h l r)) t (sym (ap isJoined j)))

@@ -32,12 +32,12 @@ use Rattle.flc.specs.declared.Command.{Command}
 use Rattle.flc.specs.Control as flc
 use Rattle.source.specs.declared.two.Which.the-variants.{First, Second}
 use Rattle.source.specs.declared.two.LookedUpInTwo.the-variants as two
-use Rattle.source.specs.TwoFonts.{firstOf, lookedUpInTwo}
+use Rattle.source.specs.TwoFonts.{firstTry, lookedUpInTwo}
 use Rattle.source.specs.Source.{Choice, Source, choiceOf, fontSource, choiceOfTwo, twoSource}
 use Rattle.source.specs.Counting.{one, isStoodIn, isNothing, howMany, countsOf}
 use Rattle.source.proofs.TwoLaws.{either-looked-up}
 use Rattle.source.specs.Steps.{eitherOf}
-use Rattle.drawing.specs.Drawing.{textCodes, withChoice, charactersOf, lineOf, modeOf, Lined, unlined, linedText, linedFrom, linedBy, linedOf, drawLined}
+use Rattle.drawing.specs.Drawing.{textCodes, withChoice, charactersOf, lineOf, modeOf, Lined, unlined, linedText, linedFrom, linedBy, linedOf, drawLined, draws, refuses, linedRead}
 use Rattle.twofonts.specs.Fonts.{Fonts, fonts, unfit, alike, fontsBy, fontsOf}
 use Rattle.twofonts.specs.declared.RequestedOfTwo.{RequestedOfTwo}
 use Rattle.twofonts.specs.declared.RequestedOfTwo.the-variants as row
@@ -47,50 +47,50 @@ use Rattle.twofonts.proofs.RowLaws.{BothSay, say-fonts}
 
 -- The order of the four tries, and that each is used exactly if none before it is there.
 module _ (a b z w : Use) where
-  to-first : (e : Entry) → firstOf a b z w ≡ two.Found First e → a ≡ Used e
+  to-first : (e : Entry) → firstTry a b z w ≡ two.Found First e → a ≡ Used e
   to-first e = go a b z w
     where
-      go : (a b z w : Use) → firstOf a b z w ≡ two.Found First e → a ≡ Used e
+      go : (a b z w : Use) → firstTry a b z w ≡ two.Found First e → a ≡ Used e
       go (Used d) b z w p = let q : d ≡ e = cc in ap Used q
       go Nothing (Used d) z w p = clash (cc)
       go Nothing Nothing (Used d) w p = clash (cc)
       go Nothing Nothing Nothing (Used d) p = clash (cc)
       go Nothing Nothing Nothing Nothing p = clash (cc)
 
-  to-second : (e : Entry) → firstOf a b z w ≡ two.Found Second e → (a ≡ Nothing) × (b ≡ Used e)
+  to-second : (e : Entry) → firstTry a b z w ≡ two.Found Second e → (a ≡ Nothing) × (b ≡ Used e)
   to-second e = go a b z w
     where
-      go : (a b z w : Use) → firstOf a b z w ≡ two.Found Second e → (a ≡ Nothing) × (b ≡ Used e)
+      go : (a b z w : Use) → firstTry a b z w ≡ two.Found Second e → (a ≡ Nothing) × (b ≡ Used e)
       go (Used d) b z w p = clash (cc)
       go Nothing (Used d) z w p = let q : d ≡ e = cc in (refl, ap Used q)
       go Nothing Nothing (Used d) w p = clash (cc)
       go Nothing Nothing Nothing (Used d) p = clash (cc)
       go Nothing Nothing Nothing Nothing p = clash (cc)
 
-  to-third : (e : Entry) → firstOf a b z w ≡ two.StoodIn First e → (a ≡ Nothing) × (b ≡ Nothing) × (z ≡ Used e)
+  to-third : (e : Entry) → firstTry a b z w ≡ two.StoodIn First e → (a ≡ Nothing) × (b ≡ Nothing) × (z ≡ Used e)
   to-third e = go a b z w
     where
-      go : (a b z w : Use) → firstOf a b z w ≡ two.StoodIn First e → (a ≡ Nothing) × (b ≡ Nothing) × (z ≡ Used e)
+      go : (a b z w : Use) → firstTry a b z w ≡ two.StoodIn First e → (a ≡ Nothing) × (b ≡ Nothing) × (z ≡ Used e)
       go (Used d) b z w p = clash (cc)
       go Nothing (Used d) z w p = clash (cc)
       go Nothing Nothing (Used d) w p = let q : d ≡ e = cc in (refl, refl, ap Used q)
       go Nothing Nothing Nothing (Used d) p = clash (cc)
       go Nothing Nothing Nothing Nothing p = clash (cc)
 
-  to-fourth : (e : Entry) → firstOf a b z w ≡ two.StoodIn Second e → (a ≡ Nothing) × (b ≡ Nothing) × (z ≡ Nothing) × (w ≡ Used e)
+  to-fourth : (e : Entry) → firstTry a b z w ≡ two.StoodIn Second e → (a ≡ Nothing) × (b ≡ Nothing) × (z ≡ Nothing) × (w ≡ Used e)
   to-fourth e = go a b z w
     where
-      go : (a b z w : Use) → firstOf a b z w ≡ two.StoodIn Second e → (a ≡ Nothing) × (b ≡ Nothing) × (z ≡ Nothing) × (w ≡ Used e)
+      go : (a b z w : Use) → firstTry a b z w ≡ two.StoodIn Second e → (a ≡ Nothing) × (b ≡ Nothing) × (z ≡ Nothing) × (w ≡ Used e)
       go (Used d) b z w p = clash (cc)
       go Nothing (Used d) z w p = clash (cc)
       go Nothing Nothing (Used d) w p = clash (cc)
       go Nothing Nothing Nothing (Used d) p = let q : d ≡ e = cc in (refl, refl, refl, ap Used q)
       go Nothing Nothing Nothing Nothing p = clash (cc)
 
-  to-none : firstOf a b z w ≡ two.Nothing → (a ≡ Nothing) × (b ≡ Nothing) × (z ≡ Nothing) × (w ≡ Nothing)
+  to-none : firstTry a b z w ≡ two.Nothing → (a ≡ Nothing) × (b ≡ Nothing) × (z ≡ Nothing) × (w ≡ Nothing)
   to-none = go a b z w
     where
-      go : (a b z w : Use) → firstOf a b z w ≡ two.Nothing → (a ≡ Nothing) × (b ≡ Nothing) × (z ≡ Nothing) × (w ≡ Nothing)
+      go : (a b z w : Use) → firstTry a b z w ≡ two.Nothing → (a ≡ Nothing) × (b ≡ Nothing) × (z ≡ Nothing) × (w ≡ Nothing)
       go (Used d) b z w p = clash (cc)
       go Nothing (Used d) z w p = clash (cc)
       go Nothing Nothing (Used d) w p = clash (cc)
@@ -112,26 +112,26 @@ module _ (c : Code) (es fs : List Entry) where
 
   pub first-try : (e : Entry) → lookedUpInTwo c es fs ≡ two.Found First e ↔ (own ≡ Used e)
   unfolding lookedUpInTwo
-  first-try e = (to-first own its zeroth other e, λ p. ap (λ (a : Use). firstOf a its zeroth other) p)
+  first-try e = (to-first own its zeroth other e, λ p. ap (λ (a : Use). firstTry a its zeroth other) p)
 
   pub second-try : (e : Entry) → lookedUpInTwo c es fs ≡ two.Found Second e ↔ ((own ≡ Nothing) × (its ≡ Used e))
   unfolding lookedUpInTwo
-  second-try e = (to-second own its zeroth other e, λ p. λ i. firstOf (p .0 i) (p .1 i) zeroth other)
+  second-try e = (to-second own its zeroth other e, λ p. λ i. firstTry (p .0 i) (p .1 i) zeroth other)
 
   pub third-try : (e : Entry) → lookedUpInTwo c es fs ≡ two.StoodIn First e ↔ ((own ≡ Nothing) × (its ≡ Nothing) × (zeroth ≡ Used e))
   unfolding lookedUpInTwo
-  third-try e = (to-third own its zeroth other e, λ p. λ i. firstOf (p .0 i) (p .1 i) (p .2 i) other)
+  third-try e = (to-third own its zeroth other e, λ p. λ i. firstTry (p .0 i) (p .1 i) (p .2 i) other)
 
   pub fourth-try : (e : Entry) → lookedUpInTwo c es fs ≡ two.StoodIn Second e ↔ ((own ≡ Nothing) × (its ≡ Nothing) × (zeroth ≡ Nothing) × (other ≡ Used e))
   unfolding lookedUpInTwo
-  fourth-try e = (to-fourth own its zeroth other e, λ p. λ i. firstOf (p .0 i) (p .1 i) (p .2 i) (p .3 i))
+  fourth-try e = (to-fourth own its zeroth other e, λ p. λ i. firstTry (p .0 i) (p .1 i) (p .2 i) (p .3 i))
 
   pub no-try : lookedUpInTwo c es fs ≡ two.Nothing ↔ ((own ≡ Nothing) × (its ≡ Nothing) × (zeroth ≡ Nothing) × (other ≡ Nothing))
   unfolding lookedUpInTwo
-  no-try = (to-none own its zeroth other, λ p. λ i. firstOf (p .0 i) (p .1 i) (p .2 i) (p .3 i))
+  no-try = (to-none own its zeroth other, λ p. λ i. firstTry (p .0 i) (p .1 i) (p .2 i) (p .3 i))
 
 -- With the same font twice every answer is that font's.
-twice-choice : (s : List ℕ) (a z : Use) → choiceOfTwo s s (firstOf a a z z) ≡ choiceOf s (whichOf a z)
+twice-choice : (s : List ℕ) (a z : Use) → choiceOfTwo s s (firstTry a a z z) ≡ choiceOf s (whichOf a z)
 twice-choice s (Used e) z = refl
 twice-choice s Nothing (Used e) = refl
 twice-choice s Nothing Nothing = refl
@@ -228,8 +228,14 @@ pub covered-lined : (s t : List ℕ) (h : Header) (es fs : List Entry) → BothS
 unfolding twoOf linedOf
 covered-lined s t h es fs b control text cs k c x =
     ap₂ (λ (f : Fonts) (r : flc.ControlReading). twoBy s t f r text) (say-fonts s t h es fs b) c ∙
-    ap (λ (l : Lined). cond (ltb maxText (length text)) (unlined (refusal textTooLong 0)) l) (covered-text s t es fs (modeOf h) (h .height) (textCodes cs k text) x) ∙
+    covered (ltb maxText (length text)) ∙
     sym (ap₂ (λ (m : font.FontReading) (r : flc.ControlReading). linedBy s m r text) (b .first) c)
+  where
+    covered : (long : Bool) →
+        linedRead (modeOf h) (h .height) (twoSource s t es fs) (cond long (refuses (refusal textTooLong 0)) (draws (textCodes cs k text))) ≡
+        linedRead (modeOf h) (h .height) (fontSource s es) (cond long (refuses (refusal textTooLong 0)) (draws (textCodes cs k text)))
+    covered true = refl
+    covered false = covered-text s t es fs (modeOf h) (h .height) (textCodes cs k text) x
 
 pub covered-draws : (size : ℕ) (s t : List ℕ) (h : Header) (es fs : List Entry) → BothSay s t h es fs → (control text : List ℕ) (cs : List Command) (k : ℕ) → flc.control control ≡ flc.reads cs k → EachHas es (textCodes cs k text) → twoLined size s t control text ≡ drawLined size s control text
 unfolding twoLined drawLined

@@ -1,7 +1,6 @@
 // Two fonts, the second behind the first: a row request of both, and a line of text drawn by both.
 use chars::Entry;
 use drawing::DrawAnswer;
-use flc::ControlAnswer;
 use ground::limits;
 use ground::refusals;
 use ground::refusals::Refusal;
@@ -25,15 +24,13 @@ ghost use Rattle.ground.specs.Limits.{minScratch, maxCharacters};
 ghost use Rattle.index.specs.Index.{CharacterRoom};
 ghost use Rattle.index.specs.Latest.{smallCodes};
 ghost use Rattle.lines.specs.Lines.{after};
-ghost use Rattle.flc.specs.Control.{control};
 ghost use Rattle.source.specs.TwoFonts.{bytesIn};
-ghost use Rattle.source.specs.Source.{twoSource};
-ghost use Rattle.drawing.specs.Drawing.{modeOf, linedFrom, PutOut};
+ghost use Rattle.drawing.specs.Drawing.{PutOut};
 ghost use Rattle.twofonts.specs.declared.RequestedOfTwo.the-variants.{Row};
 ghost use Rattle.twofonts.specs.Fonts.{alike};
 ghost use Rattle.twofonts.specs.RowOfTwo.{noRow, rowIn, rowOfTwo};
 ghost use Rattle.twofonts.specs.TwoDrawing.{twoOf, twoLined};
-ghost use Rattle.twofonts.specs.Held.{bothOf, Beside, BothHeld};
+ghost use Rattle.twofonts.specs.Held.{bothOf, BothHeld};
 
 // What reading both fonts gave: the first one's header and how many characters of each the lists hold; or a refusal.
 pub enum BothRead {
@@ -197,61 +194,7 @@ pub fn request<'a>(first: &'a [u8], second: &'a [u8], code: Code, row: usize) ->
     }
 }
 
-// Draws a text by two fonts that were read: the control file's refusals, 15, 16, then 9 for the output.
-fn draw_held<'a>(
-    out: &mut [u8],
-    area: &mut [u8],
-    text: &[u8],
-    header: Header,
-    first: &'a [u8],
-    second: &'a [u8],
-    n: usize,
-    m: usize,
-    codes: &[i32],
-    starts: &[usize],
-    widths: &[usize],
-    places: &[usize],
-    file: &[u8],
-) -> DrawAnswer
-    requires { ⌜ Beside (now first) (now second) header n m (now codes) (now starts) (now widths) (now places) ⌝ }
-    requires { ⌜ minScratch ≤ length (now area) ⌝ }
-    ensures { λ a. ⌜ ((x : Beside (now (first .entry)) (now (second .entry)) header n m (now (codes .entry)) (now (starts .entry)) (now (widths .entry)) (now (places .entry))) → PutOut (linedFrom (modeOf header) (header .height) (twoSource (now (first .entry)) (now (second .entry)) (x .held .first .characters) (x .held .second .characters)) (control (now (file .entry))) (now (text .entry))) (length (now (out .entry))) a (now (out .exit))) ⌝ }
-{
-    let mut stages = [0usize; limits::MAX_COMMANDS];
-    let mut firsts = [0i32; limits::MAX_COMMANDS];
-    let mut lasts = [0i32; limits::MAX_COMMANDS];
-    let mut news = [0i32; limits::MAX_COMMANDS];
-    match flc::read_lists(file, &mut stages, &mut firsts, &mut lasts, &mut news) {
-        ControlAnswer::Read {
-            commands,
-            stages: _,
-        } => drawing::draw_from(
-            out,
-            area,
-            text,
-            drawing::mode_of(header),
-            header.height,
-            first,
-            second,
-            Origin::Two {
-                first: n,
-                second: m,
-            },
-            codes,
-            starts,
-            widths,
-            places,
-            commands,
-            &stages,
-            &firsts,
-            &lasts,
-            &news,
-        ),
-        ControlAnswer::Refused(r) => drawing::refuse(r, out),
-    }
-}
-
-// Reads both fonts and draws a text: their refusals, 24, then as above.
+// Reads both fonts and draws a text: their refusals, 24, the control file's refusals, 15, 16, then 9 for the output.
 fn draw_once<'a>(
     out: &mut [u8],
     area: &mut [u8],
@@ -279,15 +222,18 @@ fn draw_once<'a>(
             header,
             first: n,
             second: m,
-        } => draw_held(
+        } => drawing::draw_mapped(
             out,
             area,
             text,
-            header,
+            drawing::mode_of(header),
+            header.height,
             first,
             second,
-            n,
-            m,
+            Origin::Two {
+                first: n,
+                second: m,
+            },
             &codes,
             &starts,
             &widths,

@@ -20,7 +20,7 @@ use Rattle.drawing.specs.Drawing.{textCodes, modeOf, Lined, linedText, unlined,
 use Rattle.source.specs.Source.{fontSource}
 use Rattle.drawing.proofs.OutputLaws.{text-long, text-lined}
 use Rattle.twolines.specs.declared.LinesAnswer.{LinesAnswer}
-use Rattle.twolines.specs.TwoLines.{verticalOf, verticalBy, TwoLines, noLines, closedUp, linesOf, drawLines, LinesOut}
+use Rattle.twolines.specs.TwoLines.{verticalOf, fontVertical, TwoLines, noLines, closedUp, linesOf, drawLines, LinesOut}
 
 -- what is known of lines is known of all that they are
 pub lines-as : (t u : TwoLines) (room : ℕ) (r : LinesAnswer) (out : List ℕ) → t ≡ u → LinesOut u room r out → LinesOut t room r out
@@ -28,7 +28,7 @@ lines-as t u room r out e p = subst (λ (x : TwoLines). LinesOut x room r out) (
 
 module _ (s control upper lower : List ℕ) where
   abbrev vertical : VerticalLayout
-  vertical = verticalBy (font.reading s)
+  vertical = fontVertical (font.reading s)
 
   -- a refusal of the upper text, then of the lower one
   pub upper-refused : (r : Refusal) → linedOf s control upper ≡ unlined r → linesOf s control upper lower ≡ noLines r
@@ -57,7 +57,7 @@ module _ (s control upper lower : List ℕ) where
       unfolding linesOf
       both-lined u =
           ap₂ (closedUp vertical) first (text-lined s control lower h es cs k font-said control-said u)
-          ∙ ap (λ (f : font.FontReading). closedUp (verticalBy f) (linedBy upper) (linedBy lower)) font-said
+          ∙ ap (λ (f : font.FontReading). closedUp (fontVertical f) (linedBy upper) (linedBy lower)) font-said
 
   module _ (size : ℕ) where
     by-size : (b : Bool) → ltb size minStackedScratch ≡ b → drawLines size s control upper lower ≡ cond b (noLines (refusal areaTooSmall 0)) (linesOf s control upper lower)

@@ -32,9 +32,9 @@ verticalOf Absent = FullHeight
 verticalOf (Of full) = fullVertical full
 
 -- The vertical layout of a font that is read.
-abbrev pub verticalBy : font.FontReading → VerticalLayout
-verticalBy (font.says h es) = verticalOf (h .«full_layout»)
-verticalBy (font.refuses r) = FullHeight
+abbrev pub fontVertical : font.FontReading → VerticalLayout
+fontVertical (font.says h es) = verticalOf (h .«full_layout»)
+fontVertical (font.refuses r) = FullHeight
 
 -- The two lines closed up, with the counts over both texts; or a refusal.
 pub data TwoLines : Type 0 where
@@ -44,7 +44,7 @@ pub data TwoLines : Type 0 where
 abbrev pub bothCounts : Counts → Counts → Counts
 bothCounts m n = record { «stood_in» = m .«stood_in» + n .«stood_in»; «nothing_drawn» = m .«nothing_drawn» + n .«nothing_drawn» }
 
--- "Both texts drawn as lines .., then stacked": the font's, the control file's and 15 of either text; then 16 of either line.
+-- Both texts are drawn as lines, then stacked: the font's, the control file's and 15 of either text; then 16 of either line.
 abbrev pub closedUp : VerticalLayout → Lined → Lined → TwoLines
 closedUp vertical (unlined r) lower = noLines r
 closedUp vertical (lined y h a m) (unlined r) = noLines r
@@ -52,25 +52,25 @@ closedUp vertical (lined y h a m) (lined z k b n) =
     cond (ltb maxLineWidth (a .width) || ltb maxLineWidth (b .width)) (noLines (refusal lineTooWide 0)) (twoLines (stacked vertical (y .hardblank .0) h a k b) (bothCounts m n))
 
 unfoldable pub linesOf : List ℕ → List ℕ → List ℕ → List ℕ → TwoLines
-linesOf s control upper lower = closedUp (verticalBy (font.reading s)) (linedOf s control upper) (linedOf s control lower)
+linesOf s control upper lower = closedUp (fontVertical (font.reading s)) (linedOf s control upper) (linedOf s control lower)
 
--- "9 (scratch under 64,000 ..: one line's room for each text)", before the refusals above.
+-- 9 for a scratch under 64,000 bytes, one line's room for each text, before the refusals above.
 unfoldable pub drawLines : ℕ → List ℕ → List ℕ → List ℕ → List ℕ → TwoLines
 drawLines scratch s control upper lower = cond (ltb scratch minStackedScratch) (noLines (refusal areaTooSmall 0)) (linesOf s control upper lower)
 
--- "Output is each row, then LF": no hardblank is left that would come out as a blank.
+-- The output is each row, then LF: no hardblank is left that would come out as a blank.
 abbrev pub linesSize : Stack → ℕ
 linesSize s = s .height * (s .block .width + 1)
 
 abbrev pub linesShown : Stack → List ℕ
 linesShown s = shown blank (s .height) (s .block)
 
--- "Then 9 (out)." What the two lines come to in an output of the given room, and the bytes at its start.
+-- Then 9 for the output. What the two lines come to in an output of the given room, and the bytes at its start.
 unfoldable pub linesTold : TwoLines → ℕ → StackTold
 linesTold (noLines r) room = stackTells (Refused r)
 linesTold (twoLines s n) room = fitTold s (linesSize s) room
 
--- 02, Q-2: the two counts over both texts. "A refusal tells 0 and 0."
+-- 02, Q-2: the two counts over both texts. A refusal tells 0 and 0.
 unfoldable pub linesCounts : TwoLines → ℕ → Counts
 linesCounts (noLines r) room = noCounts
 linesCounts (twoLines s n) room = cond (linesTold (twoLines s n) room .refused) noCounts n
@@ -79,7 +79,7 @@ unfoldable pub linesBytes : TwoLines → List ℕ
 linesBytes (noLines r) = []
 linesBytes (twoLines s n) = linesShown s
 
--- "A refusal fills every lent writable area with zeros. A success fills all room behind its answer with zeros."
+-- A refusal "fills every lent writable area with zeros. A success fills all room behind its answer, .. with zeros."
 unfoldable pub linesOutput : TwoLines → ℕ → List ℕ
 linesOutput t room = areaAfter (linesTold t room) (linesBytes t) room
 

@@ -24,7 +24,7 @@ use Rattle.subchars.specs.Pair as horizontal-rules
 use Rattle.subchars.specs.Pair.{blank, joinedIf, orElse, isSome, equalCharacter, underscore, hierarchy, oppositePair, bigX, unlessHardblank, joinedBy, controlled, universal, joint, reads, eitherOrder}
 use Rattle.vertical.specs.declared.Merge.{Merge}
 use Rattle.vertical.specs.declared.Merge.the-variants.{Into, Apart}
-use Rattle.vertical.specs.VerticalPair.{HorizontalLine, VerticalLine, setHas, horizontalLine, twoBars, firstOf, withoutBlank, merge, merges, mergedByte, barred}
+use Rattle.vertical.specs.VerticalPair.{HorizontalLine, VerticalLine, setHas, horizontalLine, twoBars, firstMerging, withoutBlank, merge, merges, mergedByte, barred}
 use Rattle.vertical.specs.Steps.{sharedSum, sidewaysLayout, sideways, rulesOf, sharedRules, lineRules, told}
 use Rattle.vertical.proofs.VerticalRules.{first-append}
 
@@ -70,7 +70,7 @@ module _ (u l : ℕ) (first : u ≡ blank → ⊥) (second : l ≡ blank → ⊥
     rest = rw (out (low / 8) (omega arith), out (low / 16) (omega arith), out (low / 32) (omega arith))
 
     -- "Same as horizontal smushing rule 1", "2", "3"
-    three : madeOf (controlled low blank u l) ≡ firstOf (setHas set) sharedRules u l
+    three : madeOf (controlled low blank u l) ≡ firstMerging (setHas set) sharedRules u l
     unfolding controlled
     three =
         step _ _ _ ∙ ap₂ orElse (wanted _ _ (equalCharacter u l) e1)
@@ -86,10 +86,10 @@ module _ (u l : ℕ) (first : u ≡ blank → ⊥) (second : l ≡ blank → ⊥
         e4 : low / 4 % 2 ≡ set / 1024 % 2
         e4 = omega arith
 
-    by-rules : orElse (madeOf (controlled low blank u l)) (firstOf (setHas set) lineRules u l) ≡ withoutBlank (Smushing (Controlled set)) u l
-    by-rules = ap (λ (o : Option ℕ). orElse o (firstOf (setHas set) lineRules u l)) three ∙ sym (first-append (setHas set) u l sharedRules lineRules)
+    by-rules : orElse (madeOf (controlled low blank u l)) (firstMerging (setHas set) lineRules u l) ≡ withoutBlank (Smushing (Controlled set)) u l
+    by-rules = ap (λ (o : Option ℕ). orElse o (firstMerging (setHas set) lineRules u l)) three ∙ sym (first-append (setHas set) u l sharedRules lineRules)
 
-  by-layout : (layout : VerticalLayout) → orElse (madeOf (horizontal-rules.withoutBlank (sidewaysLayout layout) LeftToRight blank u l)) (firstOf (setHas (rulesOf layout)) lineRules u l) ≡ withoutBlank layout u l
+  by-layout : (layout : VerticalLayout) → orElse (madeOf (horizontal-rules.withoutBlank (sidewaysLayout layout) LeftToRight blank u l)) (firstMerging (setHas (rulesOf layout)) lineRules u l) ≡ withoutBlank layout u l
   unfolding orElse universal
   by-layout FullHeight = refl
   by-layout Fitting = refl
@@ -98,7 +98,7 @@ module _ (u l : ℕ) (first : u ≡ blank → ⊥) (second : l ≡ blank → ⊥
 
 module _ (layout : VerticalLayout) (u l : ℕ) where
   abbrev behind : Option ℕ
-  behind = firstOf (setHas (rulesOf layout)) lineRules u l
+  behind = firstMerging (setHas (rulesOf layout)) lineRules u l
 
   -- what a pair becomes: by the horizontal decision, and if that does not join it, by the rules for lines
   by-sideways : orElse (madeOf (joint (sideways (sidewaysLayout layout)) u l)) behind ≡ merge layout u l
@@ -160,16 +160,16 @@ module _ (set u l : ℕ) where
   abbrev pub bars : Bool
   bars = setHas set VerticalLine && twoBars u l
 
-  pub by-line : line ≡ true → told (some (byte "=")) ≡ told (firstOf (setHas set) lineRules u l)
+  pub by-line : line ≡ true → told (some (byte "=")) ≡ told (firstMerging (setHas set) lineRules u l)
   unfolding horizontalLine orElse
   by-line e = rw (kept (setHas set HorizontalLine) (eitherOrder "-_" u l) (byte "=") e)
 
-  pub by-bars : line ≡ false → bars ≡ true → told (some (byte "|")) ≡ told (firstOf (setHas set) lineRules u l)
+  pub by-bars : line ≡ false → bars ≡ true → told (some (byte "|")) ≡ told (firstMerging (setHas set) lineRules u l)
   unfolding horizontalLine orElse
   by-bars e f =
       rw (passed (setHas set HorizontalLine) (eitherOrder "-_" u l) (byte "=") e, kept (setHas set VerticalLine) (twoBars u l) (byte "|") f)
 
-  pub by-neither : line ≡ false → bars ≡ false → Apart ≡ told (firstOf (setHas set) lineRules u l)
+  pub by-neither : line ≡ false → bars ≡ false → Apart ≡ told (firstMerging (setHas set) lineRules u l)
   unfolding horizontalLine orElse
   by-neither e f =
       rw (passed (setHas set HorizontalLine) (eitherOrder "-_" u l) (byte "=") e, passed (setHas set VerticalLine) (twoBars u l) (byte "|") f)

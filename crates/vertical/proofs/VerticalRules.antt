@@ -20,7 +20,7 @@ use Rattle.subchars.specs.Pair as horizontal-rules
 use Rattle.subchars.specs.Pair.{blank, joinedIf, orElse, isSome, equalCharacter, underscore, hierarchy, classOf, reads, eitherOrder}
 use Rattle.subchars.proofs.Rules as horizontally
 use Rattle.subchars.proofs.Rules.{is-some, joined-if, as-text}
-use Rattle.vertical.specs.VerticalPair.{VerticalRule, EqualCharacter, Underscore, Hierarchy, HorizontalLine, VerticalLine, verticalRules, setHas, horizontalLine, twoBars, ruleMerges, firstOf, withoutBlank, merge, merges, mergedByte, barred, otherRules, EveryVerticalRuleOf}
+use Rattle.vertical.specs.VerticalPair.{VerticalRule, EqualCharacter, Underscore, Hierarchy, HorizontalLine, VerticalLine, verticalRules, setHas, horizontalLine, twoBars, ruleMerges, firstMerging, withoutBlank, merge, merges, mergedByte, barred, otherRules, EveryVerticalRuleOf}
 
 abbrev pub controlledBy : ℕ → VerticalLayout
 controlledBy set = Smushing (Controlled set)
@@ -200,22 +200,22 @@ else-none none = refl
 
 module _ (wanted : VerticalRule → Bool) (u l : ℕ) where
   -- the rules of one list are tried before those of the next
-  pub first-append : (rs more : List VerticalRule) → firstOf wanted (rs ++ more) u l ≡ orElse (firstOf wanted rs u l) (firstOf wanted more u l)
+  pub first-append : (rs more : List VerticalRule) → firstMerging wanted (rs ++ more) u l ≡ orElse (firstMerging wanted rs u l) (firstMerging wanted more u l)
   unfolding orElse
   first-append [] more = refl
   first-append (rule ∷ rs) more =
       ap (orElse (cond (wanted rule) (ruleMerges rule u l) none)) (first-append rs more) ∙ sym (else-assoc (cond (wanted rule) (ruleMerges rule u l) none) _ _)
 
 module _ (v w : VerticalRule → Bool) (u l : ℕ) where
-  first-more : ((rule : VerticalRule) → v rule ≡ true → w rule ≡ true) → (rs : List VerticalRule) → isSome (firstOf v rs u l) ≡ true → isSome (firstOf w rs u l) ≡ true
+  first-more : ((rule : VerticalRule) → v rule ≡ true → w rule ≡ true) → (rs : List VerticalRule) → isSome (firstMerging v rs u l) ≡ true → isSome (firstMerging w rs u l) ≡ true
   unfolding orElse isSome
   first-more more [] e = e
   first-more more (rule ∷ rs) e = go (v rule) refl (ruleMerges rule u l) refl e (first-more more rs)
     where
       rest : Option ℕ
-      rest = firstOf w rs u l
+      rest = firstMerging w rs u l
 
-      go : (t : Bool) → v rule ≡ t → (o : Option ℕ) → ruleMerges rule u l ≡ o → isSome (orElse (cond t o none) (firstOf v rs u l)) ≡ true → (isSome (firstOf v rs u l) ≡ true → isSome rest ≡ true) → isSome (orElse (cond (w rule) (ruleMerges rule u l) none) rest) ≡ true
+      go : (t : Bool) → v rule ≡ t → (o : Option ℕ) → ruleMerges rule u l ≡ o → isSome (orElse (cond t o none) (firstMerging v rs u l)) ≡ true → (isSome (firstMerging v rs u l) ≡ true → isSome rest ≡ true) → isSome (orElse (cond (w rule) (ruleMerges rule u l) none) rest) ≡ true
       go true a (some x) b e old = rw (more rule a, b)
       go true a none b e old = else-second (cond (w rule) (ruleMerges rule u l) none) rest (old e)
       go false a o b e old = else-second (cond (w rule) (ruleMerges rule u l) none) rest (old e)
@@ -227,7 +227,7 @@ pub more-rules : (p q : ℕ) → EveryVerticalRuleOf p q → (u l : ℕ) → mer
 unfolding merges merge isSome
 more-rules p q w u l = go (eqb u blank) (eqb l blank)
   where
-    go : (s t : Bool) → isSome (cond s (some l) (cond t (some u) (firstOf (setHas p) verticalRules u l))) ≡ true → isSome (cond s (some l) (cond t (some u) (firstOf (setHas q) verticalRules u l))) ≡ true
+    go : (s t : Bool) → isSome (cond s (some l) (cond t (some u) (firstMerging (setHas p) verticalRules u l))) ≡ true → isSome (cond s (some l) (cond t (some u) (firstMerging (setHas q) verticalRules u l))) ≡ true
     go true t e = refl
     go false true e = refl
     go false false e = first-more (setHas p) (setHas q) u l w verticalRules e
@@ -325,13 +325,13 @@ module _ (set u l : ℕ) where
       never true = refl
       never false = refl
 
-      last : (s : ℕ) → firstOf (setHas s) (VerticalLine ∷ []) u l ≡ none
+      last : (s : ℕ) → firstMerging (setHas s) (VerticalLine ∷ []) u l ≡ none
       last s = rw e (never (setHas s VerticalLine))
 
-      without : (s : ℕ) → firstOf (setHas s) verticalRules u l ≡ firstOf (setHas s) four u l
-      without s = first-append (setHas s) u l four (VerticalLine ∷ []) ∙ (ap (orElse (firstOf (setHas s) four u l)) (last s) ∙ else-none _)
+      without : (s : ℕ) → firstMerging (setHas s) verticalRules u l ≡ firstMerging (setHas s) four u l
+      without s = first-append (setHas s) u l four (VerticalLine ∷ []) ∙ (ap (orElse (firstMerging (setHas s) four u l)) (last s) ∙ else-none _)
 
-      same : firstOf (setHas (otherRules set)) four u l ≡ firstOf (setHas set) four u l
+      same : firstMerging (setHas (otherRules set)) four u l ≡ firstMerging (setHas set) four u l
       same =
           rw (others-equal set EqualCharacter (λ z. clash cc), others-equal set Underscore (λ z. clash cc), others-equal set Hierarchy (λ z. clash cc), others-equal set HorizontalLine (λ z. clash cc))
 

@@ -55,19 +55,19 @@ ruleMerges Hierarchy u l = hierarchy u l
 ruleMerges HorizontalLine u l = horizontalLine u l
 ruleMerges VerticalLine u l = joinedIf (twoBars u l) (byte "|")
 
--- What the first of the rules that is wanted and joins the pair makes of it. ("No pair is joined by two of the four": proofs/VerticalRules.)
-abbrev pub firstOf : (VerticalRule → Bool) → List VerticalRule → ℕ → ℕ → Option ℕ
-firstOf wanted [] u l = none
-firstOf wanted (rule ∷ more) u l = orElse (cond (wanted rule) (ruleMerges rule u l) none) (firstOf wanted more u l)
+-- What the first of the rules that is wanted and joins the pair makes of it. (No pair is joined by two of the four: proofs/VerticalRules.)
+abbrev pub firstMerging : (VerticalRule → Bool) → List VerticalRule → ℕ → ℕ → Option ℕ
+firstMerging wanted [] u l = none
+firstMerging wanted (rule ∷ more) u l = orElse (cond (wanted rule) (ruleMerges rule u l) none) (firstMerging wanted more u l)
 
 -- Only smushing joins a pair without a blank: "universal or with the five rules"; "for universal the lower block is the later one".
 abbrev pub withoutBlank : VerticalLayout → ℕ → ℕ → Option ℕ
 withoutBlank FullHeight u l = none
 withoutBlank Fitting u l = none
 withoutBlank (Smushing Universal) u l = some l
-withoutBlank (Smushing (Controlled set)) u l = firstOf (setHas set) verticalRules u l
+withoutBlank (Smushing (Controlled set)) u l = firstMerging (setHas set) verticalRules u l
 
--- Document 01: "a pair with a blank joins in every mode, under no rule"; "a blank yields to its partner".
+-- Document 01: a pair with a blank "joins in every mode, under no rule"; "a blank yields to its partner".
 unfoldable pub merge : VerticalLayout → ℕ → ℕ → Option ℕ
 merge layout u l = cond (eqb u blank) (some l) (cond (eqb l blank) (some u) (withoutBlank layout u l))
 

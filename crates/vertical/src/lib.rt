@@ -9,7 +9,7 @@ use subchars::VerticalLayout;
 use subchars::VerticalSmushing;
 ghost use mathlib.Core.Path.{_≡_};
 ghost use Rattle.subchars.specs.Pair.{eitherOrder};
-ghost use Rattle.vertical.specs.VerticalPair.{setHas, twoBars, firstOf, merge, merges, mergedByte, barred, passing, goodSet, goodVertical};
+ghost use Rattle.vertical.specs.VerticalPair.{setHas, twoBars, firstMerging, merge, merges, mergedByte, barred, passing, goodSet, goodVertical};
 ghost use Rattle.vertical.specs.Steps.{sidewaysLayout, rulesOf, lineRules, told};
 
 // What an overlap asks of each pair that faces: that the layout joins it, or that it has a blank or is of two bars.
@@ -42,7 +42,7 @@ fn is_bars(u: SubCharacter, l: SubCharacter) -> bool
 
 // What rules 2048 and 4096 of a set make of a pair.
 fn line_merge(set: u16, u: SubCharacter, l: SubCharacter) -> Merge
-    ensures { λ m. ⌜ m ≡ told (firstOf (setHas set) lineRules (u .0) (l .0)) ⌝ }
+    ensures { λ m. ⌜ m ≡ told (firstMerging (setHas set) lineRules (u .0) (l .0)) ⌝ }
 {
     let line = is_line(u, l);
     if ground::both(set / 2048 % 2 == 1, line) {

@@ -100,7 +100,7 @@ use Rattle.font.proofs.Comes.{Comes, comments, character, first-row, more-rows}
 use Rattle.font.proofs.TableLaws as font-rows
 use Rattle.entries.specs.Filling.{fontReading, zeroEntry, indexOf}
 use Rattle.entries.proofs.RefusalLaws as index
-use Rattle.entries.specs.Finding.{entryTells, findTold}
+use Rattle.entries.specs.Finding.{entryTells, foundTold}
 use Rattle.entries.proofs.ToldApart as entries
 use Rattle.reader.specs.declared.Use.the-variants.{Nothing}
 use Rattle.reader.specs.declared.LookedUp.{LookedUp}
@@ -132,7 +132,7 @@ use Rattle.drawing.specs.Drawing.{charactersOf, byteChoice, fontLine, fontCount
 use Rattle.drawing.specs.Steps.{withCharacter}
 use Rattle.drawing.proofs.Answers as drawing
 use Rattle.drawing.proofs.DrawingLaws as drawings
-use Rattle.twolines.specs.TwoLines.{verticalOf, verticalBy, TwoLines, bothCounts, drawLines, linesTold, linesCounts, linesOutput}
+use Rattle.twolines.specs.TwoLines.{verticalOf, fontVertical, TwoLines, bothCounts, drawLines, linesTold, linesCounts, linesOutput}
 use Rattle.twolines.proofs.Answers as line-answers
 use Rattle.twolines.proofs.TableLaws as line-rows
 use Rattle.twolines.proofs.Bytes as line-bytes
@@ -163,7 +163,7 @@ use Rattle.records.specs.declared.Head.{Head}
 use Rattle.records.specs.declared.Place.the-variants as place-is
 use Rattle.records.specs.Versions.{headLength, recordHeadLength, maxWidth}
 use Rattle.records.specs.Records.{isZero, live as liveByte, free as freeByte, minusOne, codeIn, widthIn, rowsIn, sizeIn, listing, noneTwice, hasLive, liveCount}
-use Rattle.records.specs.Steps.{placeIn}
+use Rattle.records.specs.Places.{placeIn}
 use Rattle.records.specs.Letters.{letter, noLetter}
 use Rattle.edits.specs.Changes as edits
 use Rattle.heads.specs.Pack as heads
@@ -1038,8 +1038,8 @@ module _ (size : ℕ) (s control upper lower : List ℕ) (room : ℕ) where
   draw-stacked-wiped = wiping.lines-wiped linesDrawn room
 
   -- "Closed up as the font says": the vertical layout is that of the font's Full_Layout.
-  vertical-layout-is-the-fonts : (h : Header) (es : List Entry) → reading s ≡ says h es → verticalBy (reading s) ≡ verticalOf (h .«full_layout»)
-  vertical-layout-is-the-fonts h es e = ap verticalBy e
+  vertical-layout-is-the-fonts : (h : Header) (es : List Entry) → reading s ≡ says h es → fontVertical (reading s) ≡ verticalOf (h .«full_layout»)
+  vertical-layout-is-the-fonts h es e = ap fontVertical e
 
   -- "Output is each row, then LF": of two texts that are drawn,
   module _ (h : Header) (es : List Entry) (cs : List Command) (k : ℕ) (say : BothFilesSay h es cs k) (fit : BothLinesFit h es cs k) where
@@ -1100,8 +1100,8 @@ look-up-of-a-font : (s : List ℕ) (c : Code) (u : LookedUp) → lookUpTold s c 
 look-up-of-a-font = look-ups.looked-exactly
 
 -- "so does `find_in` over a lent index": of its first entries.
-look-up-in-an-index : (es : List Entry) (count : ℕ) (c : Code) (u : LookedUp) → findTold es count c ≡ entryTells u ↔ lookedUp c (take count es) ≡ u
-unfolding findTold
+look-up-in-an-index : (es : List Entry) (count : ℕ) (c : Code) (u : LookedUp) → foundTold es count c ≡ entryTells u ↔ lookedUp c (take count es) ≡ u
+unfolding foundTold
 look-up-in-an-index es count c u = (entries.entry-apart (lookedUp c (take count es)) u, λ e. ap entryTells e)
 
 -- "Drawing then returns how many text bytes are in the second and in the third group, by the definition of look-up": whatever gives the characters, and by

@@ -26,6 +26,6 @@ drawTells (Refused r) = record { refused = true; number = r .number; place = r .
 unfoldable pub drawTold : ℕ → List ℕ → List ℕ → List ℕ → ℕ → DrawTold
 drawTold scratch font control text room = drawTells (linedAnswer (drawLined scratch font control text) room)
 
--- "A refusal fills every lent writable area with zeros. A success fills all room behind its answer with zeros."
+-- A refusal "fills every lent writable area with zeros. A success fills all room behind its answer, .. with zeros."
 unfoldable pub drawOutput : ℕ → List ℕ → List ℕ → List ℕ → ℕ → List ℕ
 drawOutput scratch font control text room = padded (bytesOf (drawLined scratch font control text) room) room

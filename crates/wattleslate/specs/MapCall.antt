@@ -10,7 +10,7 @@ use Rattle.flc.specs.Mapping.{mapStages}
 use Rattle.wattleslate.specs.declared.MapAnswer.{MapAnswer}
 use Rattle.wattleslate.specs.declared.MapAnswer.the-variants.{Mapped, Refused}
 
--- What an answer tells. "A refusal answers its number and place; other numbers are 0."
+-- What an answer tells. "A refusal answers its number and place (..); other numbers are 0."
 pub record MapTold : Type 0 where
   pub refused : Bool
   pub number : ℕ

@@ -25,7 +25,7 @@ rowBytes s c r = partOf s (rowRequest s c r)
 pub record LiesAt (font : RefT (List ℕ)) (x : Requested) (part : RefT (List ℕ)) : Type 0 where
   pub there : (place width : ℕ) → x ≡ requested-is.Row place width → (ptr part .0 ≡ ptr font .0) × (ptr part .1 ≡ place + ptr font .1)
 
--- "A call beside the row request tells its number." "A refusal answers its number and place; other numbers are 0." Where there is none it tells where the
+-- "A call beside the row request tells its number." "A refusal answers its number and place (..); other numbers are 0." Where there is none it tells where the
 -- part starts and how wide it is.
 pub record RowTold : Type 0 where
   pub refused : Bool

@@ -26,11 +26,11 @@ use Rattle.wrapping.specs.declared.WrapAnswer.the-variants.{Wrapped, Ref
 use Rattle.breaks.specs.Words.{inWord}
 use Rattle.breaks.specs.Breaking.{Span, spansOf}
 
--- "A line is the part of the text from its first word's first byte to the end of its last."
+-- A line is the part of the text from its first word's first byte to the end of its last word.
 abbrev pub part : List ℕ → ℕ → ℕ → List ℕ
 part s b e = take (e - b) (drop b s)
 
--- "Its characters are drawn as a text of their own": the line of a text by a source and a control file's commands, and how wide a part of the text then is.
+-- Its characters are drawn as a text of their own: the line of a text by a source and a control file's commands, and how wide a part of the text then is.
 abbrev pub lineBy : Mode → ℕ → Source → List Command → ℕ → List ℕ → Block
 lineBy y h source cs k text = lineOf y h source (textCodes cs k text)
 
@@ -42,8 +42,8 @@ unfoldable pub drawings : ℕ → ℕ → (List ℕ → Block) → List ℕ → 
 drawings hardblank h line s [] = []
 drawings hardblank h line s (x ∷ xs) = shown hardblank h (line (part s (x .first) (x .behind))) ++ drawings hardblank h line s xs
 
--- "19, a single character other than a blank wider than the limit": byte x of a text, and what a source has for its code. "A code that draws nothing is 0
--- wide."
+-- "19, a single character other than a blank wider than the limit": byte x of a text, and what a source has for its code. A code that draws nothing is 0
+-- wide.
 abbrev pub choiceWidth : Choice → ℕ
 choiceWidth (found character) = character .width
 choiceWidth (stoodIn character) = character .width
@@ -52,7 +52,7 @@ choiceWidth nothing = 0
 abbrev pub tooWide : ℕ → ℕ → Choice → Bool
 tooWide limit x choice = inWord x && ltb limit (choiceWidth choice)
 
--- "The place in the text of the first such one", "after mapping and stand-in"; the text's length where there is none.
+-- The place in the text of the first such one, after mapping and stand-in; the text's length where there is none.
 unfoldable pub firstWider : Source → List Command → ℕ → ℕ → List ℕ → ℕ
 firstWider source cs k limit text = run (λ x. not (tooWide limit x (byteChoice source cs k x))) text
 
@@ -93,22 +93,22 @@ wrapBy s (font.says h es) control limit text = wrapFrom (modeOf h) (h .height) (
 unfoldable pub wrapOf : List ℕ → List ℕ → ℕ → List ℕ → Wrap
 wrapOf s control limit text = wrapBy s (font.reading s) (flc.control control) limit text
 
--- "9 (firsts or ends under 1,024 entries, scratch under 32,000)", before the refusals above.
+-- 9 for lists under 1,024 entries and for a scratch under 32,000 bytes, before the refusals above.
 unfoldable pub drawWrapped : ℕ → ℕ → ℕ → List ℕ → List ℕ → ℕ → List ℕ → Wrap
 drawWrapped firstRoom endRoom scratch s control limit text =
     cond (ltb firstRoom minLines || ltb endRoom minLines || ltb scratch minScratch) (unwrapped (refusal areaTooSmall 0)) (wrapOf s control limit text)
 
--- "9 (out)", behind them: what it comes to in an output of the given room.
+-- 9 for the output, behind them: what it comes to in an output of the given room.
 unfoldable pub wrapIn : ℕ → Wrap → Wrap
 wrapIn room (unwrapped r) = unwrapped r
 wrapIn room (wrapped spans bytes counts) = cond (ltb room (length bytes)) (unwrapped (refusal areaTooSmall 0)) (wrapped spans bytes counts)
 
--- "Answer: how many lines, and Q-2's two counts of the whole text."
+-- The answer: how many lines, and Q-2's two counts of the whole text.
 abbrev pub wrapAnswer : Wrap → WrapAnswer
 wrapAnswer (unwrapped r) = Refused r
 wrapAnswer (wrapped spans bytes counts) = Wrapped (length spans) counts
 
--- "`firsts` and `ends` hold the lines' places .. out holds the drawings one after another": none after a refusal.
+-- `firsts` and `ends` hold the lines' places, and `out` the drawings one after another; none after a refusal.
 abbrev pub wrapSpans : Wrap → List Span
 wrapSpans (unwrapped r) = []
 wrapSpans (wrapped spans bytes counts) = spans
@@ -117,7 +117,7 @@ abbrev pub wrapBytes : Wrap → List ℕ
 wrapBytes (unwrapped r) = []
 wrapBytes (wrapped spans bytes counts) = bytes
 
--- "Zeros behind": what the lists and the output then hold.
+-- Zeros behind: what the lists and the output then hold.
 abbrev pub wrapFirsts : Wrap → ℕ → ℕ → List ℕ
 wrapFirsts w room firstRoom = padded (map (λ (x : Span). x .first) (wrapSpans (wrapIn room w))) firstRoom
 

@@ -20,6 +20,38 @@ pub fn banner_font(header: &str, end: &str) -> Vec<u8> {
 
 pub const HEADER: &str = "flf2a$ 1 1 4 -1 0";
 
+/// A font with something behind it.
+pub fn behind(font: Vec<u8>, more: &str) -> Vec<u8> {
+    [font, more.into()].concat()
+}
+
+/// The font with as many characters as there may be.
+pub fn full_font() -> Vec<u8> {
+    behind(banner_font(HEADER, "\n"), &"5\na@@\n".repeat(410))
+}
+
+/// A font for each of the refusals 1 to 8, with its place.
+pub fn refused_fonts() -> Vec<(Vec<u8>, Apart)> {
+    let more = |text: &str| behind(banner_font(HEADER, "\n"), text);
+    let full = full_font();
+    vec![
+        (vec![b' '; 65537], Err((1, 0))),
+        (b"".to_vec(), Err((2, 0))),
+        (b"flf2a".to_vec(), Err((3, 0))),
+        (banner_font("flf2a$ 1 2 4 -1 0", "\n"), Err((4, 0))),
+        (more("161\n"), Err((5, 423))),
+        (more("161\nabcd@\n"), Err((6, 423))),
+        (more("-1\n"), Err((7, 419))),
+        (behind(full.clone(), "5\n"), Err((8, full.len() as u64))),
+    ]
+}
+
+/// The rooms in which a drawing is tried, with what it must give: an output to the byte and a larger one; a byte less is 9.
+pub fn tries(counts: [u16; 2], drawn: &str) -> [([usize; 2], Apart, &str); 3] {
+    let must = Ok([counts[0], counts[1], drawn.find('\n').expect("a row") as u16]);
+    [([32000, drawn.len()], must, drawn), ([32001, drawn.len() + 9], must, drawn), ([32000, drawn.len() - 1], Err((9, 0)), "")]
+}
+
 /// What the font reads as: one row, so many characters.
 pub fn reads(count: u16) -> Apart {
     Ok([0, 1, count])
@@ -177,13 +209,30 @@ impl Check {
         }
     }
 
-    fn draw(&mut self, font: &[u8], control: &str, text: &str, result: &str) {
-        let (mut s, mut a) = (vec![1; 32000], vec![1; 20]);
-        let x = calls::draw(font, control.as_bytes(), text.as_bytes(), &mut s, &mut a);
-        let (mut t, mut b) = (vec![1; 32000], vec![1; 20]);
-        let y = plain::draw::draw(font, control.as_bytes(), text.as_bytes(), &mut t, &mut b);
-        self.same(text, x, y, Ok([0, 0, result.len() as u16 - 1]));
-        self.bytes(text, &a, &b, result, 20);
+    /// A drawing in a scratch and an output of these sizes, by each implementation: the answer, and every byte of both areas.
+    pub fn drawn(
+        &mut self,
+        what: &str,
+        [scratch, out]: [usize; 2],
+        must: Apart,
+        drawn: &str,
+        proved: impl Fn(&mut [u8], &mut [u8]) -> u64,
+        plain: impl Fn(&mut [u8], &mut [u8]) -> u64,
+    ) {
+        let (mut s, mut a) = (vec![1; scratch], vec![1; out]);
+        let (mut t, mut b) = (s.clone(), a.clone());
+        let (x, y) = (proved(&mut s, &mut a), plain(&mut t, &mut b));
+        self.same(what, x, y, must);
+        self.bytes(what, &a, &b, drawn, out);
+        self.bytes(what, &s, &t, "", scratch);
+    }
+
+    /// A drawing by a font and a control file.
+    pub fn draw(&mut self, font: &[u8], control: &str, text: &[u8], rooms: [usize; 2], must: Apart, drawn: &str) {
+        let what = format!("{control:?} {:.40} {rooms:?}", text.escape_ascii().to_string());
+        let control = control.as_bytes();
+        let plain = |s: &mut [u8], o: &mut [u8]| plain::draw::draw(font, control, text, s, o);
+        self.drawn(&what, rooms, must, drawn, |s, o| calls::draw(font, control, text, s, o), plain);
     }
 
     /// "1,000 columns drawn, 1,001 refused 16", and texts up to 1,024 bytes.
@@ -214,7 +263,7 @@ impl Check {
         self.font(&banner_font(HEADER, "\r"), reads(102));
         self.font(&banner_font(HEADER, "\r\n"), reads(102));
         self.font(&banner_font(HEADER, "\n\r"), Err((6, 18)));
-        let full = [font.clone(), b"5\na@@\n".repeat(410)].concat();
+        let full = full_font();
         self.font(&full, reads(512));
         self.font(&[&full[..], b"5\n"].concat(), Err((8, full.len() as u64)));
         self.font(&[&full[..], b"-1\n"].concat(), Err((7, full.len() as u64)));
@@ -253,7 +302,7 @@ pub fn run() -> (u64, u64) {
         check.join(*case);
     }
     for (header, control, text, result) in DRAWINGS {
-        check.draw(&banner_font(header, "\n"), control, text, result);
+        check.draw(&banner_font(header, "\n"), control, text.as_bytes(), [32000, 20], Ok([0, 0, result.len() as u16 - 1]), result);
     }
     check.stacks();
     check.replaced();

@@ -1,6 +1,6 @@
 //! Request Q-8 of document 02: what another program drew, with what the check must say of it. Both implementations are asked; the answers were written by hand from the papers.
 use crate::calls::{self, Apart};
-use crate::cases::{banner_font, Check, HEADER};
+use crate::cases::{banner_font, behind, refused_fonts, Check, HEADER};
 use crate::plain::check::{self, Request};
 use crate::replaced_cases::ZERO;
 use crate::two_cases::two_rows;
@@ -229,20 +229,8 @@ impl Check {
     /// "9 (scratch under 32,000), font, control, 15, 16, 25": each where all that come behind it are due too.
     fn order_of_checks(&mut self) {
         let good = banner_font(HEADER, "\n");
-        let more = |text: &str| [good.clone(), text.into()].concat();
-        let full = more(&"5\na@@\n".repeat(410));
-        let bad: &[(Vec<u8>, Apart)] = &[
-            (vec![b' '; 65537], Err((1, 0))),
-            (b"".to_vec(), Err((2, 0))),
-            (b"flf2a".to_vec(), Err((3, 0))),
-            (banner_font("flf2a$ 1 2 4 -1 0", "\n"), Err((4, 0))),
-            (more("161\n"), Err((5, 423))),
-            (more("161\nabcd@\n"), Err((6, 423))),
-            (more("-1\n"), Err((7, 419))),
-            ([full.clone(), b"5\n".to_vec()].concat(), Err((8, full.len() as u64))),
-        ];
         let (long, wide) = (b"a".repeat(1025), b"a".repeat(1001));
-        for (font, must) in bad {
+        for (font, must) in &refused_fonts() {
             let request = Request { font, control: b"t A B\nx", text: &long, figure: b"x", overlaps: &[7] };
             self.check(&request, 31999, Err((9, 0)));
             self.check(&request, 0, Err((9, 0)));
@@ -268,7 +256,7 @@ impl Check {
 
     pub fn checked_drawings(&mut self) {
         for (header, more, control, text, overlaps, figure, must) in [RIGHT, OVERLAPS, BYTES, LENGTHS].concat() {
-            let font = [banner_font(header, "\n"), more.into()].concat();
+            let font = behind(banner_font(header, "\n"), more);
             let request = Request { font: &font, control: control.as_bytes(), text, figure: figure.as_bytes(), overlaps };
             self.check(&request, 32000, must);
             self.check(&request, 31999, Err((9, 0)));

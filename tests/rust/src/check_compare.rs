@@ -1,6 +1,6 @@
 //! Compares checks of drawings, and beside them that what the proved drawing puts out is accepted with its overlaps.
 use crate::cases::{banner_font, HEADER};
-use crate::compared::{differ, shown, Count};
+use crate::compared::{about, differ, shown, Count};
 use crate::met::Met;
 use crate::plain::check::{self, Request, Right};
 use crate::random::Random;
@@ -40,7 +40,7 @@ pub fn round(r: &mut Random, own: &[u8], count: &mut Count, met: &mut Met) {
         Err(_) => (r.bytes(9), checks::any_overlaps(r, &made.text)),
     };
     let q = Request { figure: &figure, overlaps: &overlaps, ..bare };
-    let room = if r.one_in(20) { r.between(31998, 32001) } else { 32000 };
+    let room = about(r, 32000);
     let mut s = r.bytes(room);
     let mut t = s.clone();
     let x = calls::check_drawing(&q, &mut s);

@@ -1,4 +1,4 @@
-//! What the comparisons share: the counts of answers, how a difference is told, and the sizes of areas.
+//! What the comparisons share: the counts of answers, how a difference is told, the sizes of areas, and how both implementations are asked for a drawing.
 use crate::calls;
 use crate::random::Random;
 use std::process::exit;
@@ -40,6 +40,15 @@ pub fn shown(bytes: &[u8]) -> String {
     format!("b\"{}\"", bytes.escape_ascii())
 }
 
+/// What a call was given, each thing with its name.
+pub type Input = Vec<(&'static str, String)>;
+
+/// With the sizes of scratch and output.
+pub fn with_rooms(mut input: Input, [scratch, out]: [usize; 2]) -> Input {
+    input.extend([("scratch room", scratch.to_string()), ("out room", out.to_string())]);
+    input
+}
+
 /// Prints a difference and ends the program.
 pub fn differ(call: &str, input: &[(&str, String)], proved: (u64, &[&[u8]]), plain: (u64, &[&[u8]])) -> ! {
     println!("{call} differs");
@@ -55,19 +64,55 @@ pub fn differ(call: &str, input: &[(&str, String)], proved: (u64, &[&[u8]]), pla
     exit(1)
 }
 
-/// The sizes of the two areas: nearly always enough, and sometimes one byte short. `draw` draws into areas that are large enough, and `least` is what
-/// the scratch must have.
-pub fn rooms(r: &mut Random, least: usize, draw: impl Fn(&mut [u8], &mut [u8]) -> u64) -> (usize, usize) {
-    let scratch = if r.one_in(20) { r.between(least - 2, least + 1) } else { least };
+/// How long a list is without the zeros at its end.
+pub fn used<T: Default + PartialEq>(list: &[T]) -> usize {
+    list.iter().rposition(|entry| *entry != T::default()).map_or(0, |k| k + 1)
+}
+
+/// Nearly always what an area must have at least, sometimes a little less or more.
+pub fn about(r: &mut Random, least: usize) -> usize {
+    if r.one_in(20) {
+        r.between(least - 2, least + 1)
+    } else {
+        least
+    }
+}
+
+/// The size of an output: mostly to the byte, sometimes short or larger; `refused` says it where nothing is drawn.
+pub fn out_room(r: &mut Random, needed: Option<usize>, refused: impl Fn(&mut Random) -> usize) -> usize {
+    match (r.below(24), needed) {
+        (_, None) => refused(r),
+        (0, Some(needed)) => needed.saturating_sub(1),
+        (1, Some(needed)) => r.below(needed + 1),
+        (2, Some(needed)) => needed + r.below(100),
+        (_, Some(needed)) => needed,
+    }
+}
+
+/// The sizes of scratch and output. `draw` draws into areas that are large enough, and `least` is what the scratch must have.
+pub fn rooms(r: &mut Random, least: usize, draw: impl Fn(&mut [u8], &mut [u8]) -> u64) -> [usize; 2] {
+    let scratch = about(r, least);
     let mut out = vec![0; 66000];
     let answer = draw(&mut vec![0; least], &mut out);
-    let needed = out.iter().rposition(|b| *b != 0).map_or(0, |k| k + 1);
-    let out = match r.below(24) {
-        _ if calls::number(answer) != 0 => r.below(100),
-        0 => needed.saturating_sub(1),
-        1 => r.below(needed + 1),
-        2 => needed + r.below(100),
-        _ => needed,
-    };
-    (scratch, out)
+    let needed = (calls::number(answer) == 0).then(|| used(&out));
+    [scratch, out_room(r, needed, |r| r.below(100))]
+}
+
+/// Asks both implementations for a drawing, into areas of these sizes with the same former contents. A difference is told with the input; else the answer, and what the
+/// proved one left in scratch and output.
+pub fn drawn(
+    r: &mut Random,
+    call: &str,
+    rooms: [usize; 2],
+    input: impl Fn() -> Input,
+    proved: impl Fn(&mut [u8], &mut [u8]) -> u64,
+    plain: impl Fn(&mut [u8], &mut [u8]) -> u64,
+) -> (u64, [Vec<u8>; 2]) {
+    let (mut s, mut a) = (r.bytes(rooms[0]), r.bytes(rooms[1]));
+    let (mut t, mut b) = (s.clone(), a.clone());
+    let (x, y) = (proved(&mut s, &mut a), plain(&mut t, &mut b));
+    if x != y || a != b || s != t {
+        differ(call, &with_rooms(input(), rooms), (x, &[&a, &s]), (y, &[&b, &t]));
+    }
+    (x, [s, a])
 }

@@ -1,5 +1,5 @@
 //! Compares the calls on packs: changes of one pack one after another, drawings from any pack, and drawings from a pack of a font's characters beside the font's.
-use crate::compared::{differ, rooms, shown, Count};
+use crate::compared::{differ, drawn, rooms, shown, Count};
 use crate::met::Met;
 use crate::plain::font::{self, Font};
 use crate::plain::pack;
@@ -62,25 +62,15 @@ fn compare_packs(r: &mut Random, counts: &mut [Count], cases: &mut [Met]) {
 }
 
 fn compare_draw_pack(r: &mut Random, q: &pack::Request, count: &mut Count, met: &mut Met) -> (u64, usize, Vec<u8>) {
-    let (scratch_room, out_room) = rooms(r, 32000, |s, o| pack::draw_pack(q, s, o));
-    let (scratch, out) = (r.bytes(scratch_room), r.bytes(out_room));
-    let (mut s, mut a, mut t, mut b) = (scratch.clone(), out.clone(), scratch, out);
-    let x = calls::draw_pack(q, &mut s, &mut a);
-    let y = pack::draw_pack(q, &mut t, &mut b);
-    if x != y || a != b || s != t {
-        let input = [
-            ("pack", shown(q.pack)),
-            ("layout, direction", format!("{}, {}", q.layout, q.direction)),
-            ("control", shown(q.control)),
-            ("text", shown(q.text)),
-            ("scratch room", scratch_room.to_string()),
-            ("out room", out_room.to_string()),
-        ];
-        differ("draw_pack", &input, (x, &[&a, &s]), (y, &[&b, &t]));
-    }
+    let sizes = rooms(r, 32000, |s, o| pack::draw_pack(q, s, o));
+    let input = || {
+        let by = format!("{}, {}", q.layout, q.direction);
+        vec![("pack", shown(q.pack)), ("layout, direction", by), ("control", shown(q.control)), ("text", shown(q.text))]
+    };
+    let (x, [_, a]) = drawn(r, "draw_pack", sizes, input, |s, o| calls::draw_pack(q, s, o), |s, o| pack::draw_pack(q, s, o));
     count.add(x);
-    pack_met::draw(q, x, scratch_room, met);
-    (x, scratch_room, a)
+    pack_met::draw(q, x, sizes[0], met);
+    (x, sizes[0], a)
 }
 
 /// "With a font's own it equals drawing from that font": a font's layout as a Full_Layout.
@@ -98,12 +88,12 @@ fn compare_with_font(r: &mut Random, bytes: &[u8], control: &[u8], text: &[u8], 
     let Ok(font) = font::read(bytes) else { return };
     let Some(made) = packs::of_font(r, bytes, &font) else { return };
     let q = pack::Request { pack: &made, layout: own_layout(&font), direction: font.header.right_to_left as usize, control, text };
-    let (answer, scratch, drawn) = compare_draw_pack(r, &q, count, met);
-    let (mut s, mut out) = (r.bytes(scratch), r.bytes(drawn.len()));
+    let (answer, scratch, from_pack) = compare_draw_pack(r, &q, count, met);
+    let (mut s, mut out) = (r.bytes(scratch), r.bytes(from_pack.len()));
     let own = calls::draw(bytes, control, text, &mut s, &mut out);
-    if own != answer || out != drawn {
+    if own != answer || out != from_pack {
         let input = [("font", shown(bytes)), ("pack", shown(&made)), ("control", shown(control)), ("text", shown(text))];
-        differ("draw_pack and draw", &input, (answer, &[&drawn]), (own, &[&out]));
+        differ("draw_pack and draw", &input, (answer, &[&from_pack]), (own, &[&out]));
     }
     pack_met::same_as_font(&q, font.header.full_layout.is_none(), answer, met);
 }

@@ -1,9 +1,8 @@
 //! Request Q-6's cases of drawing from a pack, with what each must give, beside a font's own drawing. Both implementations are asked; packs and drawings were written
 //! by hand.
 use crate::calls::{self, Apart};
-use crate::cases::{banner_font, Check, HEADER};
+use crate::cases::{banner_font, tries, Check, HEADER};
 use crate::pack_cases::{behind_head, padded, shown, wide, DAMAGED, HEAD};
-use crate::plain;
 use crate::plain::pack::{self, Request};
 
 /// The letters s, w, 1 and - of 01's font, one row each.
@@ -53,23 +52,15 @@ const DRAWN: &[(&[u8], &str, &[u8], u16, u16, &str)] = &[
 
 impl Check {
     fn drawing(&mut self, request: &Request, rooms: [usize; 2], must: Apart, drawn: &str) {
-        let (mut s, mut a) = (vec![1; rooms[0]], vec![1; rooms[1]]);
-        let (mut t, mut b) = (s.clone(), a.clone());
-        let x = calls::draw_pack(request, &mut s, &mut a);
-        let y = pack::draw_pack(request, &mut t, &mut b);
         let text = request.text.escape_ascii().to_string();
         let what = format!("{text:.40} by {}, {} {rooms:?} {}", request.layout, request.direction, shown(request.pack));
-        self.same(&what, x, y, must);
-        self.bytes(&what, &a, &b, drawn, rooms[1]);
-        self.bytes(&what, &s, &t, "", rooms[0]);
+        self.drawn(&what, rooms, must, drawn, |s, o| calls::draw_pack(request, s, o), |s, o| pack::draw_pack(request, s, o));
     }
 
-    /// In an output to the byte and in a larger one; a byte less is 9.
     fn draws(&mut self, request: &Request, counts: [u16; 2], drawn: &str) {
-        let must = Ok([counts[0], counts[1], drawn.find('\n').expect("a row") as u16]);
-        self.drawing(request, [32000, drawn.len()], must, drawn);
-        self.drawing(request, [32001, drawn.len() + 9], must, drawn);
-        self.drawing(request, [32000, drawn.len() - 1], Err((9, 0)), "");
+        for (rooms, must, drawn) in tries(counts, drawn) {
+            self.drawing(request, rooms, must, drawn);
+        }
     }
 
     /// `sw11` from a pack of four letters, and the font's own drawing beside it.
@@ -87,12 +78,8 @@ impl Check {
     }
 
     fn font_draws(&mut self, font: &[u8], text: &str, drawn: &str) {
-        let (mut s, mut a) = (vec![1; 32000], vec![1; drawn.len()]);
-        let x = calls::draw(font, b"", text.as_bytes(), &mut s, &mut a);
-        let mut b = vec![1; drawn.len()];
-        let y = plain::draw::draw(font, b"", text.as_bytes(), &mut s, &mut b);
-        self.same(text, x, y, Ok([0, 0, drawn.find('\n').expect("a row") as u16]));
-        self.bytes(text, &a, &b, drawn, drawn.len());
+        let (rooms, must, _) = tries([0, 0], drawn)[0];
+        self.draw(font, "", text.as_bytes(), rooms, must, drawn);
     }
 
     /// "9 (scratch), 20, 17 (layout of bad shape), the control file's, 15, 16, 9 (out)": each where all that come behind it are due too.

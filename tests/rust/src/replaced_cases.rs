@@ -1,8 +1,6 @@
 //! Request Q-2 of document 02: drawings with bytes that are not in the font, how many were stood in by code 0 and how many drew nothing. Both
 //! implementations are asked.
-use crate::calls::{self, Apart};
-use crate::cases::{banner_font, Check, HEADER};
-use crate::plain;
+use crate::cases::{banner_font, behind, Check, HEADER};
 
 /// What stands behind the font of the program banner, which has codes 32 to 126 and the seven German ones and no code 0.
 const NO_ZERO: &str = "";
@@ -65,50 +63,38 @@ pub const LAYOUTS: &[(&str, &[u8], &str)] = &[
 ];
 
 impl Check {
-    pub fn replacing(&mut self, font: &[u8], control: &str, text: &[u8], rooms: [usize; 2], must: Apart, result: &str) {
-        let [scratch, room] = rooms;
-        let (mut s, mut a) = (vec![1; scratch], vec![1; room]);
-        let x = calls::draw(font, control.as_bytes(), text, &mut s, &mut a);
-        let (mut t, mut b) = (vec![1; scratch], vec![1; room]);
-        let y = plain::draw::draw(font, control.as_bytes(), text, &mut t, &mut b);
-        let what = format!("{control:?} {:.40} {rooms:?}", text.escape_ascii().to_string());
-        self.same(&what, x, y, must);
-        self.bytes(&what, &a, &b, result, room);
-        self.bytes(&what, &s, &t, "", scratch);
-    }
-
     /// "A refusal tells 0 and 0": each refusal of a drawing with bytes that are not in the font.
-    fn replaced_refused(&mut self, behind: &str) {
-        let font = [banner_font(HEADER, "\n"), behind.into()].concat();
+    fn replaced_refused(&mut self, more: &str) {
+        let font = behind(banner_font(HEADER, "\n"), more);
         let [short, long] = [1, 1025].map(|n| vec![1; n]);
         let wide = [vec![b'a'; 1001], vec![1; 3]].concat();
-        self.replacing(&font, "", &short, [31999, 9], Err((9, 0)), "");
-        self.replacing(b"flf2b", "", &short, [32000, 9], Err((2, 0)), "");
-        self.replacing(&font, "t A", &short, [32000, 9], Err((11, 0)), "");
-        self.replacing(&font, "", &long, [32000, 2000], Err((15, 0)), "");
-        self.replacing(&font, "", &wide, [32000, 2000], Err((16, 0)), "");
-        self.replacing(&font, "", b"a\x01b", [32000, 2], Err((9, 0)), "");
+        self.draw(&font, "", &short, [31999, 9], Err((9, 0)), "");
+        self.draw(b"flf2b", "", &short, [32000, 9], Err((2, 0)), "");
+        self.draw(&font, "t A", &short, [32000, 9], Err((11, 0)), "");
+        self.draw(&font, "", &long, [32000, 2000], Err((15, 0)), "");
+        self.draw(&font, "", &wide, [32000, 2000], Err((16, 0)), "");
+        self.draw(&font, "", b"a\x01b", [32000, 2], Err((9, 0)), "");
     }
 
     /// Both counts as large as a text allows, and a stand-in that is as wide as the line may be.
     fn replaced_limits(&mut self) {
-        let font = |behind: &str| [banner_font(HEADER, "\n"), behind.into()].concat();
+        let font = |more: &str| behind(banner_font(HEADER, "\n"), more);
         let texts = [1000, 1001, 1024, 1025].map(|n| vec![1; n]);
-        self.replacing(&font(NO_ZERO), "", &texts[2], [32000, 1], Ok([1024, 0, 0]), "\n");
-        self.replacing(&font("0\n@@\n"), "", &texts[2], [32000, 1], Ok([0, 1024, 0]), "\n");
-        self.replacing(&font(ZERO), "", &texts[0], [32000, 1001], Ok([0, 1000, 1000]), &("?".repeat(1000) + "\n"));
-        self.replacing(&font(ZERO), "", &texts[1], [32000, 2000], Err((16, 0)), "");
-        self.replacing(&font(ZERO), "", &texts[3], [32000, 2000], Err((15, 0)), "");
+        self.draw(&font(NO_ZERO), "", &texts[2], [32000, 1], Ok([1024, 0, 0]), "\n");
+        self.draw(&font("0\n@@\n"), "", &texts[2], [32000, 1], Ok([0, 1024, 0]), "\n");
+        self.draw(&font(ZERO), "", &texts[0], [32000, 1001], Ok([0, 1000, 1000]), &("?".repeat(1000) + "\n"));
+        self.draw(&font(ZERO), "", &texts[1], [32000, 2000], Err((16, 0)), "");
+        self.draw(&font(ZERO), "", &texts[3], [32000, 2000], Err((15, 0)), "");
     }
 
     pub fn replaced(&mut self) {
-        for (behind, control, text, nothing, stood_in, result) in DRAWINGS {
-            let font = [banner_font(HEADER, "\n"), (*behind).into()].concat();
-            self.replacing(&font, control, text, [32000, 20], Ok([*nothing, *stood_in, result.len() as u16 - 1]), result);
+        for (more, control, text, nothing, stood_in, result) in DRAWINGS {
+            let font = behind(banner_font(HEADER, "\n"), more);
+            self.draw(&font, control, text, [32000, 20], Ok([*nothing, *stood_in, result.len() as u16 - 1]), result);
         }
         for (header, text, result) in LAYOUTS {
-            let font = [banner_font(header, "\n"), ZERO.into()].concat();
-            self.replacing(&font, "", text, [32000, 20], Ok([0, 2, result.len() as u16 - 1]), result);
+            let font = behind(banner_font(header, "\n"), ZERO);
+            self.draw(&font, "", text, [32000, 20], Ok([0, 2, result.len() as u16 - 1]), result);
         }
         self.replaced_refused(NO_ZERO);
         self.replaced_refused(ZERO);

@@ -1,5 +1,5 @@
 //! Request Q-3 of document 02: blanks and tabs behind the endmarks, what a row line then holds and which are refused. Both implementations are asked.
-use crate::cases::{banner_font, reads, Check, HEADER};
+use crate::cases::{banner_font, behind, reads, Check, HEADER};
 
 /// Lines on which the row of code 161 stands, of Max_Length 4, with what is drawn of it: none for a line that is refused 6.
 type Case = (&'static str, Option<&'static str>);
@@ -78,17 +78,17 @@ const TAB_HEADER: &str = "flf2a\t\t1 1 4 -1 0";
 impl Check {
     /// A line where the row of code 161 is due, with its line end.
     fn row_line(&mut self, header: &str, line: &str, end: &str, row: Option<&str>) {
-        let before = [banner_font(header, "\n"), b"161\n".to_vec()].concat();
+        let before = behind(banner_font(header, "\n"), "161\n");
         let font = [&before[..], line.as_bytes(), end.as_bytes()].concat();
         match row {
             None => {
                 let must = Err((6, before.len() as u64));
                 self.font(&font, must);
-                self.replacing(&font, "", b"\xa1", [32000, 20], must, "");
+                self.draw(&font, "", b"\xa1", [32000, 20], must, "");
             }
             Some(row) => {
                 self.font(&font, reads(103));
-                self.replacing(&font, "", b"\xa1", [32000, 20], Ok([0, 0, row.len() as u16]), &format!("{row}\n"));
+                self.draw(&font, "", b"\xa1", [32000, 20], Ok([0, 0, row.len() as u16]), &format!("{row}\n"));
             }
         }
     }
@@ -96,7 +96,7 @@ impl Check {
     /// "Only row lines": a tag, the end of the file and a comment stay what they were; and a row that ends the file.
     fn row_lines_only(&mut self) {
         let font = banner_font(HEADER, "\n");
-        let with = |behind: &str| [&font[..], behind.as_bytes()].concat();
+        let with = |more: &str| behind(font.clone(), more);
         self.font(&with("161 \t\na@ \n"), reads(103));
         self.font(&with(" \t \n161\na@\n"), Err((7, 419)));
         self.font(&with(" \t \n \n"), reads(102));
@@ -111,7 +111,7 @@ impl Check {
         for end in ["\n", "\r\n", "\r"] {
             let blanks = banner_font(HEADER, &format!(" \t {end}"));
             self.font(&blanks, reads(102));
-            self.replacing(&blanks, "", b"a b", [32000, 20], Ok([0, 0, 3]), "a b\n");
+            self.draw(&blanks, "", b"a b", [32000, 20], Ok([0, 0, 3]), "a b\n");
         }
     }
 

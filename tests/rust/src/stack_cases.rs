@@ -195,15 +195,10 @@ impl Check {
     }
 
     fn draw_stacked(&mut self, font: &[u8], control: &[u8], texts: [&[u8]; 2], rooms: [usize; 2], must: Apart, result: &str) {
-        let [scratch, room] = rooms;
-        let (mut s, mut a) = (vec![1; scratch], vec![1; room]);
-        let x = calls::draw_stacked(font, control, texts[0], texts[1], &mut s, &mut a);
-        let (mut t, mut b) = (vec![1; scratch], vec![1; room]);
-        let y = plain::draw::draw_stacked(font, control, texts[0], texts[1], &mut t, &mut b);
-        let what = format!("{:.40} over {:.40}", texts[0].escape_ascii().to_string(), texts[1].escape_ascii().to_string());
-        self.same(&what, x, y, must);
-        self.bytes(&what, &a, &b, result, room);
-        self.bytes(&what, &s, &t, "", scratch);
+        let [upper, lower] = texts;
+        let what = format!("{:.40} over {:.40}", upper.escape_ascii().to_string(), lower.escape_ascii().to_string());
+        let plain = |s: &mut [u8], o: &mut [u8]| plain::draw::draw_stacked(font, control, upper, lower, s, o);
+        self.drawn(&what, rooms, must, result, |s, o| calls::draw_stacked(font, control, upper, lower, s, o), plain);
     }
 
     /// The order of refusals: each is given where all that come behind it are due too.

@@ -1,6 +1,6 @@
 //! Request Q-7 of document 02: drawings by two fonts, with what each must give. Both implementations are asked; the answers were written by hand from the papers.
 use crate::calls::{self, Apart};
-use crate::cases::{banner_font, Check, HEADER};
+use crate::cases::{banner_font, behind, full_font, refused_fonts, tries, Check, HEADER};
 use crate::plain::two::{self, Request};
 use crate::replaced_cases::{DRAWINGS, LAYOUTS, ZERO};
 
@@ -13,10 +13,6 @@ fn starred(header: &str) -> Vec<u8> {
 pub fn two_rows(header: &str, mark: char) -> Vec<u8> {
     let rows = |code: i32| if code == 97 { "a@\nb@@\n".into() } else { format!("{mark}@\n{mark}@@\n") };
     format!("{header}\n{}", (32..134).map(rows).collect::<String>()).into_bytes()
-}
-
-fn behind(font: Vec<u8>, more: &str) -> Vec<u8> {
-    [font, more.into()].concat()
 }
 
 /// What stands behind 01's font, which has codes 32 to 126 and the seven German ones, and behind the second, which has asterisks for them; control file, text, how many
@@ -118,24 +114,16 @@ const ACCENTED: &str = "        \n /  /|  \n _   |  \n/_)  |  \n\\_  _|_ \n     
 
 impl Check {
     fn two(&mut self, request: &Request, rooms: [usize; 2], must: Apart, drawn: &str) {
-        let (mut s, mut a) = (vec![1; rooms[0]], vec![1; rooms[1]]);
-        let (mut t, mut b) = (s.clone(), a.clone());
-        let x = calls::draw_two(request, &mut s, &mut a);
-        let y = two::draw_two(request, &mut t, &mut b);
         let shown = |bytes: &[u8]| bytes[bytes.len().saturating_sub(40)..].escape_ascii().to_string();
         let text = request.text.escape_ascii().to_string();
         let what = format!("{text:.40} by two fonts, {:?}, {:?}, {rooms:?}", shown(request.first), shown(request.second));
-        self.same(&what, x, y, must);
-        self.bytes(&what, &a, &b, drawn, rooms[1]);
-        self.bytes(&what, &s, &t, "", rooms[0]);
+        self.drawn(&what, rooms, must, drawn, |s, o| calls::draw_two(request, s, o), |s, o| two::draw_two(request, s, o));
     }
 
-    /// In an output to the byte and in a larger one; a byte less is 9.
     fn two_draw(&mut self, request: &Request, counts: [u16; 2], drawn: &str) {
-        let must = Ok([counts[0], counts[1], drawn.find('\n').expect("a row") as u16]);
-        self.two(request, [32000, drawn.len()], must, drawn);
-        self.two(request, [32001, drawn.len() + 9], must, drawn);
-        self.two(request, [32000, drawn.len() - 1], Err((9, 0)), "");
+        for (rooms, must, drawn) in tries(counts, drawn) {
+            self.two(request, rooms, must, drawn);
+        }
     }
 
     /// "With the same font twice every answer is that font's", and "a text whose codes the first font has is drawn as by the first alone": the drawings of Q-2 by one
@@ -169,26 +157,14 @@ impl Check {
 
     /// The first font's refusals and the second's, each with its place, whatever the other one's height and hardblank are; the first's before the second's.
     fn two_refused(&mut self) {
-        let font = banner_font(HEADER, "\n");
-        let more = |text: &str| behind(font.clone(), text);
-        let full = more(&"5\na@@\n".repeat(410));
-        let bad: &[(Vec<u8>, Apart)] = &[
-            (vec![b' '; 65537], Err((1, 0))),
-            (b"".to_vec(), Err((2, 0))),
-            (b"flf2a".to_vec(), Err((3, 0))),
-            (banner_font("flf2a$ 1 2 4 -1 0", "\n"), Err((4, 0))),
-            (more("161\n"), Err((5, 423))),
-            (more("161\nabcd@\n"), Err((6, 423))),
-            (more("-1\n"), Err((7, 419))),
-            (behind(full.clone(), "5\n"), Err((8, full.len() as u64))),
-        ];
+        let (font, full, bad) = (banner_font(HEADER, "\n"), full_font(), refused_fonts());
         let others = [font.clone(), starred("flf2a# 1 1 4 -1 0"), two_rows("flf2a$ 2 1 4 -1 0", '+')];
-        for (file, must) in bad {
+        for (file, must) in &bad {
             for other in &others {
                 self.two(&Request { first: file, second: other, control: b"x", text: b"a" }, [32000, 9], *must, "");
                 self.two(&Request { first: other, second: file, control: b"x", text: b"a" }, [32000, 9], *must, "");
             }
-            for (second, _) in bad {
+            for (second, _) in &bad {
                 self.two(&Request { first: file, second, control: b"", text: b"a" }, [32000, 9], *must, "");
             }
         }

@@ -1,27 +1,20 @@
 //! Compares drawings by two fonts, and beside them the drawings of the first font alone where the two must be the same.
-use crate::compared::{differ, rooms, shown, Count};
+use crate::compared::{differ, drawn, rooms, shown, used, with_rooms, Count, Input};
 use crate::met::Met;
 use crate::plain::two::{self, Request};
 use crate::plain::Refusal;
 use crate::random::Random;
 use crate::{calls, two_met, twos};
 
-fn input(q: &Request, [scratch, out]: [usize; 2]) -> [(&'static str, String); 6] {
-    [
-        ("first", shown(q.first)),
-        ("second", shown(q.second)),
-        ("control", shown(q.control)),
-        ("text", shown(q.text)),
-        ("scratch room", scratch.to_string()),
-        ("out room", out.to_string()),
-    ]
+fn input(q: &Request) -> Input {
+    vec![("first", shown(q.first)), ("second", shown(q.second)), ("control", shown(q.control)), ("text", shown(q.text))]
 }
 
 /// What a request comes to in areas that are large enough: how long its output is, or its refusal.
 fn comes_to(q: &Request) -> Result<usize, Refusal> {
     let mut out = vec![0; 33000];
     match calls::apart(two::draw_two(q, &mut vec![0; 32000], &mut out)) {
-        Ok(_) => Ok(out.iter().rposition(|b| *b != 0).map_or(0, |k| k + 1)),
+        Ok(_) => Ok(used(&out)),
         Err((number, place)) => Err(Refusal { number, place }),
     }
 }
@@ -34,7 +27,7 @@ fn as_one(r: &mut Random, q: &Request, answer: u64, [scratch, out]: [&[u8]; 2], 
     let (mut s, mut own) = (r.bytes(scratch.len()), r.bytes(out.len()));
     let alone = calls::draw(q.first, q.control, q.text, &mut s, &mut own);
     if alone != answer || own != out || s != scratch {
-        differ("draw_two and draw", &input(q, [scratch.len(), out.len()]), (answer, &[out, scratch]), (alone, &[&own, &s]));
+        differ("draw_two and draw", &with_rooms(input(q), [scratch.len(), out.len()]), (answer, &[out, scratch]), (alone, &[&own, &s]));
     }
     two_met::as_one(q, calls::number(answer), met);
 }
@@ -44,18 +37,12 @@ pub fn round(r: &mut Random, own: [&[u8]; 2], count: &mut Count, met: &mut Met) 
     let made = twos::made(r, own);
     let q = Request { first: &made.first, second: &made.second, control: &made.control, text: &made.text };
     let comes_to = comes_to(&q);
-    let (scratch_room, mut out_room) = rooms(r, 32000, |s, o| two::draw_two(&q, s, o));
+    let mut sizes = rooms(r, 32000, |s, o| two::draw_two(&q, s, o));
     if comes_to.is_err() && r.one_in(4) {
-        out_room = 0;
+        sizes[1] = 0;
     }
-    let (scratch, out) = (r.bytes(scratch_room), r.bytes(out_room));
-    let (mut s, mut a, mut t, mut b) = (scratch.clone(), out.clone(), scratch, out);
-    let x = calls::draw_two(&q, &mut s, &mut a);
-    let y = two::draw_two(&q, &mut t, &mut b);
-    if x != y || a != b || s != t {
-        differ("draw_two", &input(&q, [scratch_room, out_room]), (x, &[&a, &s]), (y, &[&b, &t]));
-    }
+    let (x, [s, a]) = drawn(r, "draw_two", sizes, || input(&q), |s, o| calls::draw_two(&q, s, o), |s, o| two::draw_two(&q, s, o));
     count.add(x);
-    two_met::draw(&q, x, [scratch_room, out_room], comes_to, met);
+    two_met::draw(&q, x, sizes, comes_to, met);
     as_one(r, &q, x, [&s, &a], met);
 }

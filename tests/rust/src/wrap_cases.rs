@@ -1,7 +1,7 @@
 //! Request Q-4 of document 02: texts in lines, with the lines and drawings that each must give, both sides of each limit, and the order of refusals. Both
 //! implementations are asked.
 use crate::calls::{self, Apart};
-use crate::cases::{banner_font, Check, HEADER};
+use crate::cases::{banner_font, behind, Check, HEADER};
 use crate::plain::wrap::{self, Areas, Request};
 
 /// A line: its first byte, the place behind its last, and its drawing without the LF.
@@ -149,8 +149,8 @@ fn room_for(out: usize) -> Rooms {
     [32000, 1024, 1024, out]
 }
 
-fn font_with(behind: &str) -> Vec<u8> {
-    [banner_font(HEADER, "\n"), behind.into()].concat()
+fn font_with(more: &str) -> Vec<u8> {
+    behind(banner_font(HEADER, "\n"), more)
 }
 
 fn areas([scratch, firsts, ends, out]: Rooms) -> Areas {
@@ -291,11 +291,11 @@ impl Check {
             let font = banner_font(header, "\n");
             self.wraps_lines(&Request { font: &font, control: control.as_bytes(), text, limit: *limit }, [0, 0], lines);
         }
-        for (behind, control, text, limit, counts, lines) in MISSING {
-            self.wraps_lines(&Request { font: &font_with(behind), control: control.as_bytes(), text, limit: *limit }, *counts, lines);
+        for (more, control, text, limit, counts, lines) in MISSING {
+            self.wraps_lines(&Request { font: &font_with(more), control: control.as_bytes(), text, limit: *limit }, *counts, lines);
         }
-        for (behind, control, text, limit, place) in TOO_WIDE {
-            let font = font_with(behind);
+        for (more, control, text, limit, place) in TOO_WIDE {
+            let font = font_with(more);
             self.wrapping(&Request { font: &font, control: control.as_bytes(), text, limit: *limit }, room_for(20), Err((19, *place)), &[], "");
         }
         self.wide_blank();

@@ -1,4 +1,5 @@
 //! Random texts to wrap, with limits near what their words and characters need, and areas on both sides of what they must have.
+use crate::compared::{about, out_room};
 use crate::plain::draw::{line, look_up};
 use crate::plain::wrap::{self, Areas, Request, Wrapped};
 use crate::plain::Refusal;
@@ -98,25 +99,10 @@ pub fn limit(r: &mut Random, request: &Request) -> usize {
     }
 }
 
-/// Nearly always what an area must have at least, sometimes a little less or more.
-fn about(r: &mut Random, least: usize) -> usize {
-    if r.one_in(20) {
-        r.between(least - 2, least + 1)
-    } else {
-        least
-    }
-}
-
 /// Areas for a request that comes to this, with former contents: mostly to the byte, sometimes short.
 pub fn areas(r: &mut Random, comes_to: &Result<Wrapped, Refusal>) -> Areas {
-    let needed = comes_to.as_ref().map_or(0, |wrapped| wrapped.drawn.len());
-    let out = match r.below(24) {
-        _ if comes_to.is_err() => r.below(60) * r.below(2),
-        0 => needed.saturating_sub(1),
-        1 => r.below(needed + 1),
-        2 => needed + r.below(100),
-        _ => needed,
-    };
+    let needed = comes_to.as_ref().ok().map(|wrapped| wrapped.drawn.len());
+    let out = out_room(r, needed, |r| r.below(60) * r.below(2));
     let (scratch, firsts, ends) = (about(r, 32000), about(r, 1024), about(r, 1024));
     let list = |r: &mut Random, length: usize| (0..length).map(|_| r.next() as usize).collect();
     Areas { scratch: r.bytes(scratch), firsts: list(r, firsts), ends: list(r, ends), out: r.bytes(out) }

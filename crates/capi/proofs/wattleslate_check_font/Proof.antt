@@ -1,9 +1,10 @@
 -- `capi::wattleslate_check_font` meets its contract, for every input.
 -- Assumes nothing.
-use mathlib.Core.Path.{sym, ap, _∙_}
-use Rattle.capi.specs.Numbers.{fontNumber}
-use Rattle.capi.proofs.Bounds.{font-refusal-fits, font-values-fit}
+use mathlib.Core.Path.{sym, ap, _∙_, subst}
 use borrow.Author.Needs.{needs}
+use Rattle.answers.specs.Numbers.{fontNumber}
+use Rattle.answers.specs.Fits.{FontFits}
+use Rattle.capi.proofs.Bounds.{font-answer-fits}
 use Rattle.capi.proofs.wattleslate_check_font.Statement.{statement}
 use Rattle.capi.proofs.wattleslate_check_font.Tie as tie
 
@@ -19,23 +20,11 @@ slice-aggregate-read-lists-3 c = search needs
 read-lists-requires : tie.Need-read-lists-requires
 read-lists-requires c κs = search needs
 
-enum-known-header : tie.Need-enum-known-header
-enum-known-header c = search needs
-
-three-values-requires : tie.Need-three-values-requires
-three-values-requires c κs = font-values-fit _ _ _ (sym (c .before .header .given .1) ∙ c .before .before .before .before .before .before .read-lists .ensures .answer)
-
-enum-known-r : tie.Need-enum-known-r
-enum-known-r c = search needs
-
-refused-at-requires : tie.Need-refused-at-requires
-refused-at-requires c κs = font-refusal-fits _ _ (sym (c .before .r .given .1) ∙ c .before .before .before .before .before .before .read-lists .ensures .answer)
+font-number-requires : tie.Need-font-number-requires
+font-number-requires c κs = subst FontFits (sym (c .before .before .before .read-lists .ensures .answer)) (font-answer-fits _)
 
 returns : tie.Need-returns
-returns c = c .three-values .ensures ∙ ap fontNumber (sym (c .before .before .header .given .1) ∙ c .before .before .before .before .before .before .before .read-lists .ensures .answer)
-
-returns-2 : tie.Need-returns-2
-returns-2 c = c .refused-at .ensures ∙ ap fontNumber (sym (c .before .before .r .given .1) ∙ c .before .before .before .before .before .before .before .read-lists .ensures .answer)
+returns c = c .font-number .ensures ∙ ap fontNumber (c .before .before .before .before .read-lists .ensures .answer)
 
 pub wattleslate-check-font-spec : {M : Type 1} → statement M
 wattleslate-check-font-spec =
@@ -45,9 +34,5 @@ wattleslate-check-font-spec =
     slice-aggregate-read-lists-2
     slice-aggregate-read-lists-3
     read-lists-requires
-    enum-known-header
-    three-values-requires
-    enum-known-r
-    refused-at-requires
-    returns
-    returns-2)
+    font-number-requires
+    returns)

@@ -6,7 +6,7 @@ use Prim.Native.Nat.{ℕ}
 use native.Mathlib.Omega.{arith}
 use lib.ListN.{length, getD}
 use borrow.Author.Needs.{needs}
-use Rattle.checking.specs.Steps.{firstOf}
+use Rattle.checking.specs.Steps.{firstWrongOf}
 use Rattle.checking.proofs.TallyLaws.{next-right, next-wrong, list-ended}
 use Rattle.checking.proofs.compare_next.Statement.{statement}
 use Rattle.checking.proofs.compare_next.Tie as tie
@@ -20,7 +20,7 @@ first-of-requires c κs = search needs
 returns : tie.Need-returns
 returns c = λ before n e.
     let a = c .before .before .before .args in
-    c .first-of .ensures ∙ ap₂ firstOf e (sym n) ∙ list-ended (a .right) before (a .overlaps .now) (omega (arith, c .before .if1 .taken))
+    c .first-of .ensures ∙ ap₂ firstWrongOf e (sym n) ∙ list-ended (a .right) before (a .overlaps .now) (omega (arith, c .before .if1 .taken))
 
 mul-if2 : tie.Need-mul-if2
 mul-if2 c = search needs
@@ -39,7 +39,7 @@ first-of-requires-2 c κs = search needs
 returns-3 : tie.Need-returns-3
 returns-3 c = λ before n e.
     let a = c .before .before .before .before .before .args in
-    c .first-of2 .ensures ∙ ap₂ firstOf e (sym n)
+    c .first-of2 .ensures ∙ ap₂ firstWrongOf e (sym n)
     ∙ next-wrong (a .right) before (a .overlaps .now) (omega (arith, c .before .before .before .if1 .left)) (λ q. c .before .if2 .left (at-end before (a .overlaps .now) (a .k) n ∙ q))
 
 pub compare-next-spec : {M : Type 1} → statement M

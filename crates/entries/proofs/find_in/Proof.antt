@@ -60,7 +60,7 @@ use Rattle.reader.specs.Reader.{lookedUp}
 use Rattle.reader.proofs.LookedUp as U
 use Rattle.reader.proofs.LookedUp.Laws as U′
 use Rattle.entries.specs.Filling.{zeroEntry}
-use Rattle.entries.specs.Finding.{entryTells, findTold}
+use Rattle.entries.specs.Finding.{entryTells, foundTold}
 use Rattle.entries.specs.Steps.{better as betterOf}
 use Rattle.entries.proofs.Row.{R, vals, tells, place-24, step-fits, next-fits, makes, copies, typed}
 use Rattle.entries.proofs.FindLaws.{looked-none, looked-next, find-told}
@@ -159,7 +159,7 @@ module _ {M : Type 1} (𝓤 : URA M) (H : Heap 𝓤) (A : Atoms 𝓤) (W : Given
   seen-typed : (d : LookedUp) (v : Val) → Is U.the-row d (v ∷ []) → T (hasTy U′.mir v) × WT v
   seen-typed d v g = EL.lawful U.the-type U′.the-laws 𝓤 H A W tt .typed d (v ∷ []) g .0
 
-  exits : (r : LookedUp) → Is U.the-row r (seen-vals r) → entryTells r ≡ findTold ys count c → ent 𝓤 (⋆ 𝓤 H A (‵ (flft κ q) ∷ ‵ Bor ∷ ‵ Res ∷ [])) (Post (seen-val r))
+  exits : (r : LookedUp) → Is U.the-row r (seen-vals r) → entryTells r ≡ foundTold ys count c → ent 𝓤 (⋆ 𝓤 H A (‵ (flft κ q) ∷ ‵ Bor ∷ ‵ Res ∷ [])) (Post (seen-val r))
   exits r g e =
       qed W (‵ (flft κ q) ∷ ‵ Bor ∷ ‵ Res ∷ []) ∵
       suffices ! _ (ends-at 𝓤 H A find-in.ended stayed (find-in.clauses 𝓤 H A mem run) W (((κ, tt), (q, tt), tt, x, at), tt) (seen-val r) r (tt, (tt, (tt, tt))) (tt, (tt, (tt, tt)))) $ says ! e $

@@ -7,7 +7,7 @@ use borrow.Author.Needs.{needs}
 use Rattle.heads.specs.Pack.{Pack, says}
 use Rattle.heads.proofs.FindLaws.{walkable, found}
 use Rattle.heads.proofs.OpenLaws.{says-one}
-use Rattle.records.specs.Steps.{placeIn}
+use Rattle.records.specs.Places.{placeIn}
 use Rattle.records.specs.Versions.{headLength}
 use Rattle.letters.specs.Held.{heldOf}
 use Rattle.letters.proofs.find_letter.Statement.{statement}

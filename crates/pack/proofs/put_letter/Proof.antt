@@ -8,7 +8,7 @@ use Prim.Native.Nat.{ℕ}
 use lib.ListN.{length}
 use Rattle.records.specs.declared.Spot.the-variants.{Free, Tail}
 use Rattle.records.specs.Versions.{headLength}
-use Rattle.records.specs.Steps.{isPlace}
+use Rattle.records.specs.Places.{isPlace}
 use Rattle.records.proofs.VersionLaws.{width-length-high}
 use Rattle.records.proofs.WalkLaws.{place-has}
 use Rattle.heads.specs.Pack.{meaning}

@@ -22,17 +22,23 @@ slice-aggregate-hold-letters-2 c = search needs
 hold-letters-requires : tie.Need-hold-letters-requires
 hold-letters-requires c κs = (c .before .before .before .before .before .before .before .before .before .pre .0, (omega arith, omega arith))
 
-slice-aggregate-draw-held : tie.Need-slice-aggregate-draw-held
-slice-aggregate-draw-held c = search needs
+slice-aggregate-draw-mapped : tie.Need-slice-aggregate-draw-mapped
+slice-aggregate-draw-mapped c = search needs
 
-slice-aggregate-draw-held-2 : tie.Need-slice-aggregate-draw-held-2
-slice-aggregate-draw-held-2 c = search needs
+slice-aggregate-draw-mapped-2 : tie.Need-slice-aggregate-draw-mapped-2
+slice-aggregate-draw-mapped-2 c = search needs
 
-draw-held-requires : tie.Need-draw-held-requires
-draw-held-requires c κs =
-    let a = c .before .before .before .before .before .before .before .before .before .before .before .before .before .before .before .before .before .args in
-    let p = c .before .before .before .before .before .before .before .before .before .before .before .before .before .before .before .before .before .pre in
-    ((_, pack-gives (a .pack .now) (a .head) (p .0 .0) _ _ (p .0 .1) (c .before .before .before .before .before .before .before .hold-letters .ensures (p .0 .0) (p .0 .1))), p .1)
+slice-aggregate-draw-mapped-3 : tie.Need-slice-aggregate-draw-mapped-3
+slice-aggregate-draw-mapped-3 c = search needs
+
+slice-aggregate-draw-mapped-4 : tie.Need-slice-aggregate-draw-mapped-4
+slice-aggregate-draw-mapped-4 c = search needs
+
+draw-mapped-requires : tie.Need-draw-mapped-requires
+draw-mapped-requires c κs =
+    let a = c .before .before .before .before .before .before .before .before .before .before .before .before .before .before .before .before .before .before .before .args in
+    let p = c .before .before .before .before .before .before .before .before .before .before .before .before .before .before .before .before .before .before .before .pre in
+    ((_, record { by = pack-gives (a .pack .now) (a .head) (p .0 .0) _ _ (p .0 .1) (c .before .before .before .before .before .before .before .before .before .hold-letters .ensures (p .0 .0) (p .0 .1)) }), p .1)
 
 same-length : tie.Need-same-length
 same-length c = search needs
@@ -42,11 +48,12 @@ same-length-2 c = search needs
 
 returns : tie.Need-returns
 returns c =
-    let a = c .before .before .before .before .before .before .before .before .before .before .before .before .before .before .before .before .before .before .before .before .before .before .args in
-    let p = c .before .before .before .before .before .before .before .before .before .before .before .before .before .before .before .before .before .before .before .before .before .before .pre .0 in
-    subst (λ (l : Lined). PutOut l (length (a .out .now)) (c .before .before .before .before .draw-held .result) (c .before .before .before .before .draw-held .last .0))
-    (sym (of-good-layout (a .pack .now) (a .layout) (a .direction) (a .file .now) (a .text .now) (a .head) (p .0) (p .1) (sym (c .before .before .before .before .before .before .before .before .before .before .before .before .before .before .before .before .good-layout .ensures) ∙ c .before .before .before .before .before .before .before .before .before .before .before .before .before .before .before .if1 .taken)))
-    (c .before .before .before .before .draw-held .ensures (packSource (a .head) (p .0)) (pack-gives (a .pack .now) (a .head) (p .0) _ _ (p .1) (c .before .before .before .before .before .before .before .before .before .before .before .before .hold-letters .ensures (p .0) (p .1))))
+    let a = c .before .before .before .before .before .before .before .before .before .before .before .before .before .before .before .before .before .before .before .before .before .before .before .before .args in
+    let p = c .before .before .before .before .before .before .before .before .before .before .before .before .before .before .before .before .before .before .before .before .before .before .before .before .pre .0 in
+    let d = c .before .before .before .before .draw-mapped in
+    subst (λ (l : Lined). PutOut l (length (a .out .now)) (d .result) (d .last .0))
+    (sym (of-good-layout (a .pack .now) (a .layout) (a .direction) (a .file .now) (a .text .now) (a .head) (p .0) (p .1) (sym (c .before .before .before .before .before .before .before .before .before .before .before .before .before .before .before .before .before .before .good-layout .ensures) ∙ c .before .before .before .before .before .before .before .before .before .before .before .before .before .before .before .before .before .if1 .taken)))
+    (d .ensures (packSource (a .head) (p .0)) (record { by = pack-gives (a .pack .now) (a .head) (p .0) _ _ (p .1) (c .before .before .before .before .before .before .before .before .before .before .before .before .before .before .hold-letters .ensures (p .0) (p .1)) }))
 
 refuse-requires : tie.Need-refuse-requires
 refuse-requires c κs = search needs
@@ -58,8 +65,9 @@ returns-2 : tie.Need-returns-2
 returns-2 c =
     let a = c .before .before .before .before .before .before .before .before .before .before .before .args in
     let p = c .before .before .before .before .before .before .before .before .before .before .before .pre .0 in
-    subst (λ (l : Lined). PutOut l (length (a .out .now)) (c .before .before .refuse .result) (c .before .before .refuse .last .1 .0))
-    (sym (of-bad-layout (a .pack .now) (a .layout) (a .direction) (a .file .now) (a .text .now) (a .head) (p .0) (p .1) (sym (c .before .before .before .before .before .good-layout .ensures) ∙ c .before .before .before .before .if1 .left))) (c .before .before .refuse .ensures)
+    let d = c .before .before .refuse in
+    subst (λ (l : Lined). PutOut l (length (a .out .now)) (d .result) (d .last .1 .0))
+    (sym (of-bad-layout (a .pack .now) (a .layout) (a .direction) (a .file .now) (a .text .now) (a .head) (p .0) (p .1) (sym (c .before .before .before .before .before .good-layout .ensures) ∙ c .before .before .before .before .if1 .left))) (d .ensures)
 
 pub draw-opened-spec : {M : Type 1} → statement M
 draw-opened-spec =
@@ -69,9 +77,11 @@ draw-opened-spec =
     slice-aggregate-hold-letters
     slice-aggregate-hold-letters-2
     hold-letters-requires
-    slice-aggregate-draw-held
-    slice-aggregate-draw-held-2
-    draw-held-requires
+    slice-aggregate-draw-mapped
+    slice-aggregate-draw-mapped-2
+    slice-aggregate-draw-mapped-3
+    slice-aggregate-draw-mapped-4
+    draw-mapped-requires
     same-length
     same-length-2
     returns

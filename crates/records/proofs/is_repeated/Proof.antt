@@ -4,7 +4,7 @@ use mathlib.Core.Path.{_≡_, refl, sym, ap, _∙_}
 use Prim.Native.Nat.{ℕ, _+_, _-_, _≤_}
 use native.Mathlib.Omega.{arith}
 use borrow.Author.Needs.{needs}
-use Rattle.records.specs.Steps.{isPlace}
+use Rattle.records.specs.Places.{isPlace}
 use Rattle.records.proofs.WalkLaws.{place-has, yes-and}
 use Rattle.records.proofs.is_repeated.Statement.{statement}
 use Rattle.records.proofs.is_repeated.Tie as tie

@@ -2,8 +2,11 @@
 -- Assumes nothing.
 use mathlib.Core.Path.{sym, subst}
 use lib.ListN.{length}
-use Rattle.drawing.specs.Drawing.{Lined, PutOut}
-use Rattle.twofonts.proofs.FontsLaws.{held-as, held-lined, unfit-lined}
+use Rattle.subchars.specs.declared.Mode.{Mode}
+use Rattle.flc.specs.Control.{control}
+use Rattle.source.specs.Source.{twoSource}
+use Rattle.drawing.specs.Drawing.{Lined, linedFrom, PutOut}
+use Rattle.twofonts.proofs.FontsLaws.{held-as, held-lined, two-give, unfit-lined}
 use borrow.Author.Needs.{needs}
 use Rattle.twofonts.proofs.draw_once.Statement.{statement}
 use Rattle.twofonts.proofs.draw_once.Tie as tie
@@ -26,23 +29,26 @@ read-both-requires c κs = search needs
 enum-known-header : tie.Need-enum-known-header
 enum-known-header c = search needs
 
-slice-aggregate-draw-held : tie.Need-slice-aggregate-draw-held
-slice-aggregate-draw-held c = search needs
+mode-of-requires : tie.Need-mode-of-requires
+mode-of-requires c κs = search needs
 
-slice-aggregate-draw-held-2 : tie.Need-slice-aggregate-draw-held-2
-slice-aggregate-draw-held-2 c = search needs
+slice-aggregate-draw-mapped : tie.Need-slice-aggregate-draw-mapped
+slice-aggregate-draw-mapped c = search needs
 
-slice-aggregate-draw-held-3 : tie.Need-slice-aggregate-draw-held-3
-slice-aggregate-draw-held-3 c = search needs
+slice-aggregate-draw-mapped-2 : tie.Need-slice-aggregate-draw-mapped-2
+slice-aggregate-draw-mapped-2 c = search needs
 
-slice-aggregate-draw-held-4 : tie.Need-slice-aggregate-draw-held-4
-slice-aggregate-draw-held-4 c = search needs
+slice-aggregate-draw-mapped-3 : tie.Need-slice-aggregate-draw-mapped-3
+slice-aggregate-draw-mapped-3 c = search needs
 
-draw-held-requires : tie.Need-draw-held-requires
-draw-held-requires c κs =
-    let a = c .before .before .before .before .before .before .before .before .before .before .before .before .before .before .before .before .before .before .before .before .before .before .before .before .args in
-    let l = c .before .before .before .before .before .before .before .before .before .before .before .before .before .read-both in
-    (held-as (a .first .now) (a .second .now) _ _ (l .last .1 .1 .0) (l .last .1 .1 .1 .0) (l .last .1 .1 .1 .1 .0) (l .last .1 .1 .1 .1 .1 .0) (c .before .before .before .before .before .before .before .header .given .1) (l .ensures), c .before .before .before .before .before .before .before .before .before .before .before .before .before .before .before .before .before .before .before .before .before .before .before .before .pre)
+slice-aggregate-draw-mapped-4 : tie.Need-slice-aggregate-draw-mapped-4
+slice-aggregate-draw-mapped-4 c = search needs
+
+draw-mapped-requires : tie.Need-draw-mapped-requires
+draw-mapped-requires c κs =
+    let a = c .before .before .before .before .before .before .before .before .before .before .before .before .before .before .before .before .before .before .before .before .before .before .before .before .before .args in
+    let l = c .before .before .before .before .before .before .before .before .before .before .before .before .before .before .read-both in
+    ((_, two-give _ _ _ _ _ _ _ _ _ (held-as (a .first .now) (a .second .now) _ _ (l .last .1 .1 .0) (l .last .1 .1 .1 .0) (l .last .1 .1 .1 .1 .0) (l .last .1 .1 .1 .1 .1 .0) (c .before .before .before .before .before .before .before .before .header .given .1) (l .ensures))), c .before .before .before .before .before .before .before .before .before .before .before .before .before .before .before .before .before .before .before .before .before .before .before .before .before .pre)
 
 enum-known-r : tie.Need-enum-known-r
 enum-known-r c = search needs
@@ -58,11 +64,13 @@ same-length-2 c = search needs
 
 returns : tie.Need-returns
 returns c =
-    let a = c .before .before .before .before .before .before .before .before .before .before .before .before .before .before .before .before .before .before .before .before .before .before .before .before .before .before .before .before .before .args in
-    let l = c .before .before .before .before .before .before .before .before .before .before .before .before .before .before .before .before .before .before .read-both in
-    let x = held-as (a .first .now) (a .second .now) _ _ (l .last .1 .1 .0) (l .last .1 .1 .1 .0) (l .last .1 .1 .1 .1 .0) (l .last .1 .1 .1 .1 .1 .0) (c .before .before .before .before .before .before .before .before .before .before .before .before .header .given .1) (l .ensures) in
-    let d = c .before .before .before .before .draw-held in
-    subst (λ (l : Lined). PutOut l (length (a .out .now)) (d .result) (d .last .0)) (sym (held-lined (a .first .now) (a .second .now) _ _ _ _ _ _ _ x (a .file .now) (a .text .now))) (d .ensures x)
+    let a = c .before .before .before .before .before .before .before .before .before .before .before .before .before .before .before .before .before .before .before .before .before .before .before .before .before .before .before .before .before .before .args in
+    let l = c .before .before .before .before .before .before .before .before .before .before .before .before .before .before .before .before .before .before .before .read-both in
+    let h = c .before .before .before .before .before .before .before .before .before .before .before .before .before .header .given .0 .0 in
+    let x = held-as (a .first .now) (a .second .now) _ _ (l .last .1 .1 .0) (l .last .1 .1 .1 .0) (l .last .1 .1 .1 .1 .0) (l .last .1 .1 .1 .1 .1 .0) (c .before .before .before .before .before .before .before .before .before .before .before .before .before .header .given .1) (l .ensures) in
+    let d = c .before .before .before .before .draw-mapped in
+    let put = subst (λ (y : Mode). PutOut (linedFrom y (h .height) (twoSource (a .first .now) (a .second .now) (x .held .first .characters) (x .held .second .characters)) (control (a .file .now)) (a .text .now)) (length (a .out .now)) (d .result) (d .last .0)) (c .before .before .before .before .before .before .before .before .before .mode-of .ensures) (d .ensures _ (two-give _ _ _ _ _ _ _ _ _ x)) in
+    subst (λ (l : Lined). PutOut l (length (a .out .now)) (d .result) (d .last .0)) (sym (held-lined (a .first .now) (a .second .now) _ _ _ _ _ _ _ x (a .file .now) (a .text .now))) put
 
 same-length-3 : tie.Need-same-length-3
 same-length-3 c = search needs
@@ -85,11 +93,12 @@ draw-once-spec =
     slice-aggregate-read-both-4
     read-both-requires
     enum-known-header
-    slice-aggregate-draw-held
-    slice-aggregate-draw-held-2
-    slice-aggregate-draw-held-3
-    slice-aggregate-draw-held-4
-    draw-held-requires
+    mode-of-requires
+    slice-aggregate-draw-mapped
+    slice-aggregate-draw-mapped-2
+    slice-aggregate-draw-mapped-3
+    slice-aggregate-draw-mapped-4
+    draw-mapped-requires
     enum-known-r
     refuse-requires
     same-length

@@ -3,7 +3,7 @@
 use mathlib.Core.Path.{refl, sym, _∙_, ap}
 use Prim.Native.Nat.{ℕ}
 use borrow.Author.Needs.{needs}
-use Rattle.vertical.specs.VerticalPair.{setHas, firstOf}
+use Rattle.vertical.specs.VerticalPair.{setHas, firstMerging}
 use Rattle.vertical.specs.Steps.{lineRules, told}
 use Rattle.vertical.proofs.Deciding.{by-joint, by-lines}
 use Rattle.vertical.proofs.merge_of.Statement.{statement}
@@ -43,7 +43,7 @@ returns-3 : tie.Need-returns-3
 returns-3 c = let a = c .before .before .before .before .before .args in by-joint (a .layout) (a .u .0) (a .l .0) _ (c .before .before .before .before .sideways-layout .ensures) _ _ refl (sym (c .before .x3 .given .1) ∙ c .before .before .before .joint-of .ensures)
 
 returns-4 : tie.Need-returns-4
-returns-4 c = let a = c .before .before .before .before .before .before .args in by-lines (a .layout) (a .u .0) (a .l .0) _ (c .before .before .before .before .before .sideways-layout .ensures) _ (sym (c .before .before .enum-told .given .1) ∙ c .before .before .before .before .joint-of .ensures) (c .line-merge .ensures ∙ ap (λ (s : ℕ). told (firstOf (setHas s) lineRules (a .u .0) (a .l .0))) (c .before .rules-of .ensures))
+returns-4 c = let a = c .before .before .before .before .before .before .args in by-lines (a .layout) (a .u .0) (a .l .0) _ (c .before .before .before .before .before .sideways-layout .ensures) _ (sym (c .before .before .enum-told .given .1) ∙ c .before .before .before .before .joint-of .ensures) (c .line-merge .ensures ∙ ap (λ (s : ℕ). told (firstMerging (setHas s) lineRules (a .u .0) (a .l .0))) (c .before .rules-of .ensures))
 
 pub merge-of-spec : {M : Type 1} → statement M
 merge-of-spec =

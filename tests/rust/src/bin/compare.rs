@@ -2,7 +2,7 @@
 //! compare [SEED [TIMES]]: exits 1 at the first difference, after printing the input, or at the end where a refusal or a case was never met.
 use std::process::exit;
 use std::time::Instant;
-use wattleslate_tests::compared::{differ, rooms, shown, Count};
+use wattleslate_tests::compared::{differ, drawn, rooms, shown, used, Count};
 use wattleslate_tests::met::{self, Drawing, Met};
 use wattleslate_tests::plain::wrap::{self, Areas, Request};
 use wattleslate_tests::random::Random;
@@ -89,50 +89,26 @@ fn cut(r: &mut Random, font: &[u8], control: &[u8], text: &mut Vec<u8>) {
 }
 
 fn compare_draw(r: &mut Random, font: &[u8], control: &[u8], text: &[u8], count: &mut Count, met: &mut Met) {
-    let (scratch_room, out_room) = rooms(r, 32000, |s, o| plain::draw::draw(font, control, text, s, o));
-    let (scratch, out) = (r.bytes(scratch_room), r.bytes(out_room));
-    let (mut s, mut a, mut t, mut b) = (scratch.clone(), out.clone(), scratch, out);
-    let x = calls::draw(font, control, text, &mut s, &mut a);
-    let y = plain::draw::draw(font, control, text, &mut t, &mut b);
-    if x != y || a != b || s != t {
-        let input = [
-            ("font", shown(font)),
-            ("control", shown(control)),
-            ("text", shown(text)),
-            ("scratch room", scratch_room.to_string()),
-            ("out room", out_room.to_string()),
-        ];
-        differ("draw", &input, (x, &[&a, &s]), (y, &[&b, &t]));
-    }
+    let by_paper = |s: &mut [u8], o: &mut [u8]| plain::draw::draw(font, control, text, s, o);
+    let sizes = rooms(r, 32000, by_paper);
+    let input = || vec![("font", shown(font)), ("control", shown(control)), ("text", shown(text))];
+    let (x, _) = drawn(r, "draw", sizes, input, |s, o| calls::draw(font, control, text, s, o), by_paper);
     count.add(x);
-    replaced::draw(font, control, text, x, scratch_room, met);
+    replaced::draw(font, control, text, x, sizes[0], met);
 }
 
 fn compare_draw_stacked(r: &mut Random, font: &[u8], control: &[u8], [upper, lower]: [&[u8]; 2], count: &mut Count, met: &mut Met) {
-    let (scratch_room, out_room) = rooms(r, 64000, |s, o| plain::draw::draw_stacked(font, control, upper, lower, s, o));
-    let (scratch, out) = (r.bytes(scratch_room), r.bytes(out_room));
-    let (mut s, mut a, mut t, mut b) = (scratch.clone(), out.clone(), scratch, out);
-    let x = calls::draw_stacked(font, control, upper, lower, &mut s, &mut a);
-    let y = plain::draw::draw_stacked(font, control, upper, lower, &mut t, &mut b);
-    if x != y || a != b || s != t {
-        let input = [
-            ("font", shown(font)),
-            ("control", shown(control)),
-            ("upper", shown(upper)),
-            ("lower", shown(lower)),
-            ("scratch room", scratch_room.to_string()),
-            ("out room", out_room.to_string()),
-        ];
-        differ("draw_stacked", &input, (x, &[&a, &s]), (y, &[&b, &t]));
-    }
+    let by_paper = |s: &mut [u8], o: &mut [u8]| plain::draw::draw_stacked(font, control, upper, lower, s, o);
+    let sizes = rooms(r, 64000, by_paper);
+    let input = || vec![("font", shown(font)), ("control", shown(control)), ("upper", shown(upper)), ("lower", shown(lower))];
+    let (x, _) = drawn(r, "draw_stacked", sizes, input, |s, o| calls::draw_stacked(font, control, upper, lower, s, o), by_paper);
     count.add(x);
-    met::draw_stacked(&Drawing { font, control, texts: [upper, lower], scratch: scratch_room, out: out_room }, x, met);
+    met::draw_stacked(&Drawing { font, control, texts: [upper, lower], scratch: sizes[0], out: sizes[1] }, x, met);
 }
 
 /// The entries of a list up to the last that is not 0, and how many it has.
 fn listed(list: &[usize]) -> String {
-    let used = list.iter().rposition(|n| *n != 0).map_or(0, |k| k + 1);
-    format!("{:?} of {}", &list[..used], list.len())
+    format!("{:?} of {}", &list[..used(list)], list.len())
 }
 
 fn compare_draw_wrapped(r: &mut Random, font: &[u8], control: &[u8], count: &mut Count, met: &mut Met) {

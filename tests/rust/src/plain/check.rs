@@ -1,10 +1,8 @@
 //! Checking what another program drew: request Q-8 of document 02. "Refusals: the drawing's, first; a list of the wrong length is 25."
 use super::control;
-use super::draw::{block, look_up, rows};
+use super::draw::{block, look_up, shown};
 use super::font;
 use super::join::{put, Block};
-use super::pairs::Mode;
-use super::stack::made_ready;
 use super::{packed, refuse, Refusal};
 
 /// "Given font, control file, text, a FIGure, and that program's list of overlaps."
@@ -51,7 +49,7 @@ impl Request<'_> {
             return refuse(15, 0);
         }
         let header = &font.header;
-        let mode = Mode { layout: header.layout, right_to_left: header.right_to_left, hardblank: header.hardblank };
+        let mode = header.mode();
         let mut line = Block { width: 0, rows: vec![Vec::new(); header.height] };
         let mut each = Vec::new();
         for byte in self.text {
@@ -63,7 +61,7 @@ impl Request<'_> {
             each.push(overlap);
             line = longer;
         }
-        let figure = rows(&made_ready(&line, header.hardblank, line.width)).collect();
+        let figure = shown(&line, header.hardblank);
         Ok(Right { figure, overlaps: each.iter().skip(1).copied().collect(), drawn: each.len() })
     }
 

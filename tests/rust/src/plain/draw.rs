@@ -2,9 +2,8 @@
 use super::control::{self, Control};
 use super::font::{self, Character, Font, LookUp};
 use super::join::{put, Block};
-use super::pairs::Mode;
 use super::stack;
-use super::{packed, refuse, Refusal};
+use super::{output, packed, refuse, Refusal};
 
 pub fn block(font: &[u8], character: &Character) -> Block {
     let rows = character.rows.iter().map(|at| font[*at..*at + character.width].to_vec()).collect();
@@ -25,7 +24,7 @@ pub fn replaced(font: &Font, control: &Control, text: &[u8]) -> [usize; 2] {
 /// How many bytes at the start of a text fit in a line of so many columns, and the line of these and of the byte that does not fit, where there is one: a line
 /// never becomes narrower.
 pub fn line_within(bytes: &[u8], font: &Font, control: &Control, text: &[u8], limit: usize) -> (usize, Block) {
-    let mode = Mode { layout: font.header.layout, right_to_left: font.header.right_to_left, hardblank: font.header.hardblank };
+    let mode = font.header.mode();
     let mut line = Block { width: 0, rows: vec![Vec::new(); font.header.height] };
     for (at, byte) in text.iter().enumerate() {
         if let Some(character) = look_up(font, control, *byte).character() {
@@ -68,31 +67,26 @@ fn lines(bytes: &[u8], file: &[u8], texts: &[&[u8]], scratch: usize) -> Result<L
 }
 
 /// "Each row .., then LF."
-pub fn rows(block: &Block) -> impl Iterator<Item = u8> + '_ {
-    block.rows.iter().flat_map(|row| row.iter().copied().chain([b'\n']))
+fn rows(block: &Block) -> Vec<u8> {
+    block.rows.iter().flat_map(|row| row.iter().copied().chain([b'\n'])).collect()
 }
 
-/// What is drawn, and 9 for an output that has no room for it.
-pub fn output(drawn: &[u8], out: &mut [u8]) -> Result<(), Refusal> {
-    if out.len() < drawn.len() {
-        return refuse(9, 0);
-    }
-    out[..drawn.len()].copy_from_slice(drawn);
-    Ok(())
+/// "Each row with hardblanks as blanks, then LF": what a line looks like.
+pub fn shown(line: &Block, hardblank: u8) -> Vec<u8> {
+    rows(&stack::made_ready(line, hardblank, line.width))
 }
 
 fn answer(bytes: &[u8], file: &[u8], text: &[u8], scratch: usize, out: &mut [u8]) -> Result<[usize; 3], Refusal> {
     let Lines { font, control, lines } = lines(bytes, file, &[text], scratch)?;
-    let width = lines[0].width;
-    output(&rows(&stack::made_ready(&lines[0], font.header.hardblank, width)).collect::<Vec<u8>>(), out)?;
+    output(&shown(&lines[0], font.header.hardblank), out)?;
     let [stood_in, nothing] = replaced(&font, &control, text);
-    Ok([nothing, stood_in, width])
+    Ok([nothing, stood_in, lines[0].width])
 }
 
 fn stacked_answer(bytes: &[u8], file: &[u8], texts: [&[u8]; 2], scratch: usize, out: &mut [u8]) -> Result<[usize; 3], Refusal> {
     let Lines { font, lines, .. } = lines(bytes, file, &texts, scratch)?;
     let (overlap, result) = stack::put(font.header.vertical(), font.header.hardblank, &lines[0], &lines[1]);
-    output(&rows(&result).collect::<Vec<u8>>(), out)?;
+    output(&rows(&result), out)?;
     Ok([overlap, result.rows.len(), result.width])
 }
 

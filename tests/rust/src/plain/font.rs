@@ -130,10 +130,14 @@ impl<'a> LookUp<'a> {
 }
 
 impl Font {
-    /// "When codes repeat, the last is used. Otherwise the character with code 0 stands in; if there is none, nothing is drawn."
+    /// "When codes repeat, the last is used.
+    pub fn last(&self, code: i32) -> Option<&Character> {
+        self.characters.iter().rev().find(|character| character.code == code)
+    }
+
+    /// Otherwise the character with code 0 stands in; if there is none, nothing is drawn."
     pub fn look_up(&self, code: i32) -> LookUp<'_> {
-        let last = |code: i32| self.characters.iter().rev().find(|c| c.code == code);
-        match (last(code), last(0)) {
+        match (self.last(code), self.last(0)) {
             (Some(character), _) => LookUp::Itself(character),
             (None, Some(character)) => LookUp::StoodIn(character),
             (None, None) => LookUp::Nothing,

@@ -1,7 +1,7 @@
 //! The header line of a font: refusals 2, 3 and 4.
 use super::lines::{is_gap, words};
 use super::numbers::header_number;
-use super::pairs::{is_hardblank, Layout, Smushing};
+use super::pairs::{is_hardblank, Layout, Mode, Smushing};
 use super::stack::{vertical, Vertical};
 use super::{refuse, Refusal};
 
@@ -17,6 +17,10 @@ pub struct Header {
 }
 
 impl Header {
+    pub fn mode(&self) -> Mode {
+        Mode { layout: self.layout, right_to_left: self.right_to_left, hardblank: self.hardblank }
+    }
+
     pub fn vertical(&self) -> Vertical {
         vertical(self.full_layout)
     }

@@ -1,7 +1,7 @@
 //! The join of two blocks: demand 3, and refusals 17, 16 and 9.
 use super::header::full_layout;
 use super::pairs::{is_hardblank, joined, Layout, Mode};
-use super::{packed, refuse, Refusal};
+use super::{output, packed, refuse, Refusal};
 
 /// Rows of equal width; a height of its own, since a row may be empty.
 #[derive(Clone)]
@@ -95,11 +95,7 @@ impl Request<'_> {
         if result.width > 1000 {
             return refuse(16, 0);
         }
-        let bytes = result.rows.concat();
-        if out.len() < bytes.len() {
-            return refuse(9, 0);
-        }
-        out[..bytes.len()].copy_from_slice(&bytes);
+        output(&result.rows.concat(), out)?;
         Ok([0, overlap, result.width])
     }
 }

@@ -32,6 +32,15 @@ pub fn packed(answer: Result<[usize; 3], Refusal>) -> u64 {
     }
 }
 
+/// What is put out, and 9 for an output that has no room for it.
+pub fn output(bytes: &[u8], out: &mut [u8]) -> Result<(), Refusal> {
+    if out.len() < bytes.len() {
+        return refuse(9, 0);
+    }
+    out[..bytes.len()].copy_from_slice(bytes);
+    Ok(())
+}
+
 /// Height and count of characters of a font.
 pub fn check_font(font: &[u8]) -> u64 {
     packed(font::read(font).map(|f| [0, f.header.height, f.characters.len()]))

@@ -1,11 +1,10 @@
 //! A font pack in a lent buffer: request Q-6 of document 02. "Refusals: 20 damaged pack, 17 .., 21 code present, 22 code absent, 23 no room, in that order."
 use super::control;
-use super::draw::{line, output, replaced, rows};
+use super::draw::{line, replaced, shown};
 use super::font::{Character, Font};
 use super::header::{full_layout, Header};
 use super::pairs::is_hardblank;
-use super::stack::made_ready;
-use super::{packed, refuse, Refusal};
+use super::{output, packed, refuse, Refusal};
 
 /// "The mark CFP, version 1 in two bytes high first, one byte height, one byte hardblank."
 pub const HEAD: usize = 7;
@@ -258,7 +257,7 @@ impl Request<'_> {
         if line.width > 1000 {
             return refuse(16, 0);
         }
-        output(&rows(&made_ready(&line, read.hardblank, line.width)).collect::<Vec<u8>>(), out)?;
+        output(&shown(&line, read.hardblank), out)?;
         let [stood_in, nothing] = replaced(&font, &control, self.text);
         Ok([nothing, stood_in, line.width])
     }

@@ -1,7 +1,7 @@
 //! Two blocks one above the other: request Q-1 of document 02, with the vertical rules of source document 000; refusals 17, 18 and 9.
 use super::join::{block, Block};
 use super::pairs::{by_rule, is_hardblank};
-use super::{packed, refuse, Refusal};
+use super::{output, packed, refuse, Refusal};
 
 /// "Vertical full height, fitting and smushing, universal or with the five rules."
 #[derive(Clone, Copy, PartialEq, Eq, Debug)]
@@ -177,11 +177,7 @@ impl Request<'_> {
         if result.rows.len() > 64 {
             return refuse(18, 0);
         }
-        let bytes = result.rows.concat();
-        if out.len() < bytes.len() {
-            return refuse(9, 0);
-        }
-        out[..bytes.len()].copy_from_slice(&bytes);
+        output(&result.rows.concat(), out)?;
         Ok([overlap, result.rows.len(), result.width])
     }
 }

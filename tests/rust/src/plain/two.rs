@@ -1,11 +1,10 @@
 //! Two fonts, one behind the other: request Q-7 of document 02. "Refusals: the first font's, the second's, then 24, heights or hardblanks differ; the rest as before."
 use super::control::{self, Control};
-use super::draw::{block, output, rows};
+use super::draw::{block, shown};
 use super::font::{self, Character, Font};
 use super::join::{put, Block};
 use super::pairs::Mode;
-use super::stack::made_ready;
-use super::{packed, refuse, Refusal};
+use super::{output, packed, refuse, Refusal};
 
 /// What is drawn.
 #[derive(Clone, Copy)]
@@ -25,11 +24,6 @@ pub struct Read<'a> {
 impl<'a> Read<'a> {
     fn of(bytes: &'a [u8]) -> Result<Read<'a>, Refusal> {
         Ok(Read { bytes, font: font::read(bytes)? })
-    }
-
-    /// "When codes repeat, the last is used."
-    fn last(&self, code: i32) -> Option<&Character> {
-        self.font.characters.iter().rev().find(|character| character.code == code)
     }
 }
 
@@ -84,7 +78,7 @@ impl<'a> Two<'a> {
     pub fn look_up(&self, code: i32) -> Found<'_> {
         let tries = [(Of::First, code), (Of::Second, code), (Of::First, 0), (Of::Second, 0)];
         for (number, (of, sought)) in tries.into_iter().enumerate() {
-            if let Some(character) = self.font(of).last(sought) {
+            if let Some(character) = self.font(of).font.last(sought) {
                 return if number < 2 { Found::Itself(of, character) } else { Found::StoodIn(of, character) };
             }
         }
@@ -93,8 +87,7 @@ impl<'a> Two<'a> {
 
     /// "Layout and direction are the first font's."
     pub fn mode(&self) -> Mode {
-        let header = &self.first.font.header;
-        Mode { layout: header.layout, right_to_left: header.right_to_left, hardblank: header.hardblank }
+        self.first.font.header.mode()
     }
 
     /// The line, or one wider than 1,000 as soon as there is one.
@@ -143,7 +136,7 @@ impl<'a> Request<'a> {
         if line.width > 1000 {
             return refuse(16, 0);
         }
-        output(&rows(&made_ready(&line, two.mode().hardblank, line.width)).collect::<Vec<u8>>(), out)?;
+        output(&shown(&line, two.mode().hardblank), out)?;
         let [stood_in, nothing] = two.replaced(&control, self.text);
         Ok([nothing, stood_in, line.width])
     }

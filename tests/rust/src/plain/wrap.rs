@@ -1,10 +1,9 @@
 //! A text in lines of at most so many columns: request Q-4 of document 02. "9 (firsts or ends under 1,024 entries, scratch under 32,000), font, control, 15,
 //! 17, 19, 9 (out)."
 use super::control::{self, Control};
-use super::draw::{line, line_within, look_up, output, replaced, rows};
+use super::draw::{line, line_within, look_up, replaced, shown};
 use super::font::{self, Font};
-use super::stack::made_ready;
-use super::{packed, refuse, Refusal};
+use super::{output, packed, refuse, Refusal};
 
 /// What is drawn, and the column limit.
 #[derive(Clone, Copy)]
@@ -90,7 +89,7 @@ impl Request<'_> {
         let mut drawn = Vec::new();
         for part in lines {
             let line = line(self.font, &files.font, &files.control, &self.text[part.first..part.end]);
-            drawn.extend(rows(&made_ready(&line, files.font.header.hardblank, line.width)));
+            drawn.extend(shown(&line, files.font.header.hardblank));
         }
         drawn
     }

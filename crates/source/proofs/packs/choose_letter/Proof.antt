@@ -15,7 +15,7 @@ use Rattle.records.specs.declared.Place.{Place}
 use Rattle.records.specs.declared.Place.the-variants.{At, Nowhere}
 use Rattle.records.specs.Codes.{bitsOf, isCode}
 use Rattle.records.specs.Versions.{headLength}
-use Rattle.records.specs.Steps.{placeIn, isPlace}
+use Rattle.records.specs.Places.{placeIn, isPlace}
 use Rattle.records.proofs.CodeLaws.{code-fits}
 use Rattle.records.proofs.VersionLaws.{head-length-low}
 use Rattle.heads.specs.Pack.{headIn}

@@ -5,7 +5,7 @@ use mathlib.Core.Bool.{true, false, true≢false}
 use borrow.Author.Needs.{needs}
 use Rattle.records.specs.declared.Place.{Place}
 use Rattle.records.specs.declared.Place.the-variants.{At, Nowhere}
-use Rattle.records.specs.Steps.{isPlace}
+use Rattle.records.specs.Places.{isPlace}
 use Rattle.letters.specs.Held.{orElse}
 use Rattle.source.proofs.packs.own_or_zeroth.Statement.{statement}
 use Rattle.source.proofs.packs.own_or_zeroth.Tie as tie
