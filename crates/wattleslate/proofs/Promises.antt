@@ -140,7 +140,8 @@ use Rattle.wrapping.specs.declared.WrapAnswer.{WrapAnswer}
 use Rattle.wrapping.specs.declared.WrapAnswer.the-variants as wrap-is
 use Rattle.breaks.specs.Words.{isBreak, inWord, wordFrom, wordBehind, endsWord}
 use Rattle.breaks.specs.Breaking.{Span, span, spanEnd, spansFrom, spansOf}
-use Rattle.wrapping.specs.Wrapping.{wideIn, drawings, choiceWidth, firstWider, Wrap, drawWrapped, wrapIn, wrapAnswer, wrapFirsts, wrapEnds, wrapOutput}
+use Rattle.spans.specs.Spans.{wideIn, drawings, choiceWidth, firstWider}
+use Rattle.wrapping.specs.Wrapping.{Wrap, drawWrapped, wrapIn, wrapAnswer, wrapFirsts, wrapEnds, wrapOutput}
 use Rattle.breaks.specs.Steps.{lastBehind}
 use Rattle.wrapping.proofs.Answers as wrap-answers
 use Rattle.breaks.proofs.BreakingLaws as breaks

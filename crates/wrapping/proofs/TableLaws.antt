@@ -25,7 +25,7 @@ use Rattle.wrapping.specs.declared.WrapAnswer.{WrapAnswer}
 use Rattle.wrapping.specs.declared.WrapAnswer.the-variants.{Wrapped, Refused}
 use Rattle.breaks.specs.Words.{inWord}
 use Rattle.breaks.specs.Breaking.{Span, spansOf}
-use Rattle.wrapping.specs.Wrapping.{wideIn, drawings, choiceWidth, firstWider}
+use Rattle.spans.specs.Spans.{wideIn, drawings, choiceWidth, firstWider}
 use Rattle.wrapping.proofs.Answers as answers
 use Rattle.wrapping.proofs.Answers.{Enough, FilesRead, LimitGood, WrapsTo, areas-small, font-refused, control-refused, text-too-long, limit-bad, character-wide, output-small, wraps, wider-at, none-before}
 
