@@ -94,6 +94,11 @@ pub font-lined : (s control text : List ℕ) (h : Header) (es : List Entry) → 
 unfolding linedOf
 font-lined s control text h es font-said = ap (λ (f : font.FontReading). linedBy s f (flc.control control) text) font-said
 
+-- A font that is refused has no line.
+pub font-unlined : (s control text : List ℕ) (r : Refusal) → font.reading s ≡ font.refuses r → linedOf s control text ≡ unlined r
+unfolding linedOf
+font-unlined s control text r refused = ap (λ (f : font.FontReading). linedBy s f (flc.control control) text) refused
+
 module _ (s control text : List ℕ) (h : Header) (es : List Entry) (cs : List Command) (k : ℕ) (font-said : font.reading s ≡ font.says h es) (control-said : flc.control control ≡ flc.reads cs k) where
   pub text-long : maxText < length text → linedOf s control text ≡ unlined (refusal textTooLong 0)
   text-long l = font-lined s control text h es font-said ∙ source-long (modeOf h) (h .height) (fontSource s es) control text cs k control-said l

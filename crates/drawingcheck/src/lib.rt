@@ -1,7 +1,7 @@
 // Another program's drawing of a text, checked against the font's.
+use bothfiles::Files;
 use checking::CheckAnswer;
 use checking::Tally;
-use drawing::Files;
 use ground::limits;
 use ground::refusals;
 use ground::refusals::Refusal;
@@ -20,7 +20,7 @@ ghost use Rattle.flc.specs.Passing.{ControlHeld};
 ghost use Rattle.source.specs.Source.{Source};
 ghost use Rattle.source.specs.Held.{Gives};
 ghost use Rattle.drawing.specs.Drawing.{textCodes};
-ghost use Rattle.drawing.specs.Held.{FilesHeld};
+ghost use Rattle.bothfiles.specs.Held.{FilesHeld};
 ghost use Rattle.checking.specs.Steps.{tallied};
 ghost use Rattle.drawingcheck.specs.CheckDrawing.{checkedFrom, checkedOf, drawingChecked};
 ghost use Rattle.drawingcheck.specs.Steps.{Grows, withChosen, CodesDrawn};
@@ -224,7 +224,7 @@ fn check_once(
     let mut firsts = [0i32; limits::MAX_COMMANDS];
     let mut lasts = [0i32; limits::MAX_COMMANDS];
     let mut news = [0i32; limits::MAX_COMMANDS];
-    let files = drawing::read_files(
+    let files = bothfiles::read_files(
         font,
         control,
         &mut codes,

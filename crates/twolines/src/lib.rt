@@ -1,6 +1,6 @@
 // Two lines of text drawn by one font, one above the other.
+use bothfiles::Files;
 use drawing::DrawnText;
-use drawing::Files;
 use ground::limits;
 use ground::refusals;
 use ground::refusals::Refusal;
@@ -28,7 +28,7 @@ ghost use Rattle.subchars.specs.declared.Mode.{Mode};
 ghost use Rattle.source.specs.Source.{Source};
 ghost use Rattle.source.specs.Held.{FontHeld, Gives};
 ghost use Rattle.drawing.specs.Drawing.{textCodes, linedText};
-ghost use Rattle.drawing.specs.Held.{FilesHeld};
+ghost use Rattle.bothfiles.specs.Held.{FilesHeld};
 ghost use Rattle.twolines.specs.Steps.{BothDrawn, BothCounted, countsBeside};
 ghost use Rattle.twolines.specs.TwoLines.{verticalOf, TwoLines, closedUp, linesOf, drawLines, stackPart, countsPart, LinesOut};
 
@@ -356,7 +356,7 @@ fn draw_once(
     let mut firsts = [0i32; limits::MAX_COMMANDS];
     let mut lasts = [0i32; limits::MAX_COMMANDS];
     let mut news = [0i32; limits::MAX_COMMANDS];
-    let files = drawing::read_files(
+    let files = bothfiles::read_files(
         font,
         control,
         &mut codes,

@@ -216,7 +216,7 @@ pub fn draw(
     ensures output { λ r. ⌜ now (out .exit) ≡ drawOutput (length (now (scratch .entry))) (now (font .entry)) (now (control .entry)) (now (text .entry)) (length (now (out .entry))) ⌝ }
     ensures scratch { λ r. ⌜ now (scratch .exit) ≡ zeros (length (now (scratch .entry))) ⌝ }
 {
-    drawing::draw(font, control, text, scratch, out)
+    fontdrawing::draw(font, control, text, scratch, out)
 }
 
 // Draws two texts by a font and a control file, the lower line under the upper one and closed up as the font's vertical layout says, and writes them to

@@ -1,5 +1,5 @@
 // A text drawn in lines that are at most a limit wide.
-use drawing::Files;
+use bothfiles::Files;
 use ground::limits;
 use ground::refusals;
 use ground::refusals::Refusal;
@@ -20,7 +20,7 @@ ghost use Rattle.flc.specs.Passing.{ControlHeld};
 ghost use Rattle.source.specs.Held.{FontHeld};
 ghost use Rattle.source.specs.Counting.{isMissing, howMany, countsOf};
 ghost use Rattle.drawing.specs.Drawing.{textCodes};
-ghost use Rattle.drawing.specs.Held.{FilesHeld};
+ghost use Rattle.bothfiles.specs.Held.{FilesHeld};
 ghost use Rattle.breaks.specs.Breaking.{Span};
 ghost use Rattle.spans.specs.Spans.{lineBy, wideIn, drawings};
 ghost use Rattle.wrapping.specs.Wrapping.{Wrap, wrapLines, wrapText, badLimit, wrapOf, drawWrapped, WrapOut};
@@ -341,7 +341,7 @@ fn wrap_once(
     let mut firsts = [0i32; limits::MAX_COMMANDS];
     let mut lasts = [0i32; limits::MAX_COMMANDS];
     let mut news = [0i32; limits::MAX_COMMANDS];
-    let files = drawing::read_files(
+    let files = bothfiles::read_files(
         font,
         control,
         &mut codes,

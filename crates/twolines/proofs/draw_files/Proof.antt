@@ -1,7 +1,7 @@
 -- `twolines::draw_files` meets its contract.
 -- Assumes nothing.
 use borrow.Author.Needs.{needs}
-use Rattle.drawing.proofs.HeldLaws.{held-as}
+use Rattle.bothfiles.proofs.HeldLaws.{held-as}
 use Rattle.twolines.proofs.LinesLaws.{lines-as, upper-refused}
 use Rattle.twolines.proofs.draw_files.Statement.{statement}
 use Rattle.twolines.proofs.draw_files.Tie as tie

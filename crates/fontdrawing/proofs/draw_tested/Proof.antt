@@ -1,10 +1,10 @@
--- `drawing::draw_tested` meets its contract.
+-- `fontdrawing::draw_tested` meets its contract.
 -- Assumes nothing.
 use lib.ListN.{length}
 use Rattle.drawing.proofs.SizeLaws.{lined-small, lined-enough, put-as}
 use borrow.Author.Needs.{needs}
-use Rattle.drawing.proofs.draw_tested.Statement.{statement}
-use Rattle.drawing.proofs.draw_tested.Tie as tie
+use Rattle.fontdrawing.proofs.draw_tested.Statement.{statement}
+use Rattle.fontdrawing.proofs.draw_tested.Tie as tie
 
 refuse-requires : tie.Need-refuse-requires
 refuse-requires c κs = search needs

@@ -1,4 +1,4 @@
--- `drawing::draw_line` meets its contract.
+-- `bothfiles::draw_line` meets its contract.
 -- Assumes nothing.
 use mathlib.Core.Path.{sym, subst}
 use lib.ListN.{length}
@@ -7,11 +7,11 @@ use Rattle.subchars.specs.declared.Mode.{Mode}
 use Rattle.flc.specs.Control as flc
 use Rattle.source.specs.Source.{fontSource}
 use Rattle.source.proofs.CharacterLaws.{font-gives}
 use Rattle.drawing.specs.Drawing.{Lined, linedFrom, PutOut}
-use Rattle.drawing.proofs.HeldLaws.{held-as}
+use Rattle.bothfiles.proofs.HeldLaws.{held-as}
 use Rattle.drawing.proofs.OutputLaws.{font-lined}
-use Rattle.drawing.proofs.draw_line.Statement.{statement}
-use Rattle.drawing.proofs.draw_line.Tie as tie
+use Rattle.bothfiles.proofs.draw_line.Statement.{statement}
+use Rattle.bothfiles.proofs.draw_line.Tie as tie
 
 enum-known-files : tie.Need-enum-known-files
 enum-known-files c = search needs

@@ -1,9 +1,9 @@
--- `drawing::draw` meets its contract.
+-- `fontdrawing::draw` meets its contract.
 -- Assumes nothing.
 use Rattle.ground.proofs.Areas.{wiped}
 use borrow.Author.Needs.{needs}
-use Rattle.drawing.proofs.draw.Statement.{statement}
-use Rattle.drawing.proofs.draw.Tie as tie
+use Rattle.fontdrawing.proofs.draw.Statement.{statement}
+use Rattle.fontdrawing.proofs.draw.Tie as tie
 
 draw-tested-requires : tie.Need-draw-tested-requires
 draw-tested-requires c κs = search needs

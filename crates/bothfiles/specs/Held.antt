@@ -10,9 +10,9 @@ use Rattle.flc.specs.declared.ControlAnswer.{ControlAnswer}
 use Rattle.flc.specs.declared.ControlAnswer.the-variants as answer
 use Rattle.flc.specs.Passing.{ControlHeld}
 use Rattle.source.specs.Held.{FontHeld}
-use Rattle.drawing.specs.declared.Files.{Files}
-use Rattle.drawing.specs.declared.Files.the-variants.{Read, Refused}
+use Rattle.bothfiles.specs.declared.Files.{Files}
+use Rattle.bothfiles.specs.declared.Files.the-variants.{Read, Refused}
 use Rattle.drawing.specs.Drawing.{unlined, linedOf}
 
 -- "The font's, the control file's": what both answers come to.
 abbrev pub filesOf : FontAnswer → ControlAnswer → Files

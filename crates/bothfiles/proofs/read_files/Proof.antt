@@ -1,11 +1,11 @@
--- `drawing::read_files` meets its contract.
+-- `bothfiles::read_files` meets its contract.
 -- Assumes nothing.
 use mathlib.Core.Path.{sym}
 use Rattle.flc.proofs.HeldLaws.{told}
-use Rattle.drawing.proofs.HeldLaws.{held-as, files-held}
+use Rattle.bothfiles.proofs.HeldLaws.{held-as, files-held}
 use borrow.Author.Needs.{needs}
-use Rattle.drawing.proofs.read_files.Statement.{statement}
-use Rattle.drawing.proofs.read_files.Tie as tie
+use Rattle.bothfiles.proofs.read_files.Statement.{statement}
+use Rattle.bothfiles.proofs.read_files.Tie as tie
 
 read-font-requires : tie.Need-read-font-requires
 read-font-requires c κs = search needs

@@ -1,11 +1,11 @@
--- `drawing::files_of` meets its contract.
+-- `bothfiles::files_of` meets its contract.
 -- Assumes nothing.
 use mathlib.Core.Path.{sym, ap, ap₂}
 use Rattle.reader.specs.declared.FontAnswer.{FontAnswer}
-use Rattle.drawing.specs.Held.{filesOf}
+use Rattle.bothfiles.specs.Held.{filesOf}
 use borrow.Author.Needs.{needs}
-use Rattle.drawing.proofs.files_of.Statement.{statement}
-use Rattle.drawing.proofs.files_of.Tie as tie
+use Rattle.bothfiles.proofs.files_of.Statement.{statement}
+use Rattle.bothfiles.proofs.files_of.Tie as tie
 
 enum-known-font : tie.Need-enum-known-font
 enum-known-font c = search needs

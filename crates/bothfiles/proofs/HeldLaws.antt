@@ -12,9 +12,9 @@ use Rattle.flc.specs.declared.ControlAnswer.the-variants as answer
 use Rattle.flc.specs.Control as flc
 use Rattle.flc.specs.Passing.{ControlHeldBy}
 use Rattle.source.specs.Held.{FontHeldBy}
-use Rattle.drawing.specs.declared.Files.{Files}
+use Rattle.bothfiles.specs.declared.Files.{Files}
 use Rattle.drawing.specs.Drawing.{linedBy, linedOf}
-use Rattle.drawing.specs.Held.{filesOf, FilesHeld}
+use Rattle.bothfiles.specs.Held.{filesOf, FilesHeld}
 
 -- Both answers together.
 module _ (s c : List ℕ) (codes : List ℤ) (starts widths places stages : List ℕ) (firsts lasts news : List ℤ) where
