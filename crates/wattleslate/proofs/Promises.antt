@@ -147,17 +147,17 @@ use Rattle.wrapping.proofs.Answers as wrap-answers
 use Rattle.breaks.proofs.BreakingLaws as breaks
 use Rattle.wrapping.proofs.TableLaws as wrap-rows
 use Rattle.wrapping.proofs.TextLines as text-lines
-use Rattle.wattleslate.specs.declared.RowRefusal.the-variants.{NotRefused, Refused}
-use Rattle.wattleslate.specs.RowCall.{rowTells, rowTold, rowBytes}
-use Rattle.wattleslate.specs.declared.LookUpAnswer.the-variants as look-up-is
-use Rattle.wattleslate.specs.LookUpCall.{lookUpTells, lookUpTold}
+use Rattle.fontcalls.specs.declared.RowRefusal.the-variants.{NotRefused, Refused}
+use Rattle.fontcalls.specs.RowCall.{rowTells, rowTold, rowBytes}
+use Rattle.fontcalls.specs.declared.LookUpAnswer.the-variants as look-up-is
+use Rattle.fontcalls.specs.LookUpCall.{lookUpTells, lookUpTold}
 use Rattle.wattleslate.specs.declared.MapAnswer.the-variants as map-is
 use Rattle.wattleslate.specs.MapCall.{mapTells, mapTold}
 use Rattle.wattleslate.specs.DrawCall.{drawTells, drawTold, drawOutput}
-use Rattle.wattleslate.proofs.LookUpLaws as look-ups
+use Rattle.fontcalls.proofs.LookUpLaws as look-ups
 use Rattle.wattleslate.proofs.MapCases as mappings
 use Rattle.wattleslate.proofs.DrawLaws as draw-calls
-use Rattle.wattleslate.proofs.RowLaws as row-calls
+use Rattle.fontcalls.proofs.RowLaws as row-calls
 use Rattle.wattleslate.proofs.Wiping as wiping
 use Rattle.font.specs.Font as font
 use Rattle.records.specs.declared.Head.{Head}

@@ -1,6 +1,4 @@
 -- The meaning of the public calls.
-pub mod LookUpCall
-pub mod RowCall
 pub mod RowOfTwoCall
 pub mod ControlCall
 pub mod MapCall

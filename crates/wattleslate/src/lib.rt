@@ -1,6 +1,6 @@
 // The public calls. Each is total: it tests its own input, and its `ensures` hold for every input.
 
-// The types that the calls take and answer, and the two calls over a lent index.
+// The types that the calls take and answer, the two calls over a lent index, and those that ask one font.
 pub use chars::Entry;
 pub use checking::CheckAnswer;
 pub use drawing::DrawAnswer;
@@ -8,8 +8,12 @@ pub use entries::find_in;
 pub use entries::read_font;
 pub use flc::ControlAnswer;
 use flc::mapping;
+pub use fontcalls::LookUpAnswer;
+pub use fontcalls::RowRefusal;
+pub use fontcalls::look_up;
+pub use fontcalls::row;
+pub use fontcalls::row_refusal;
 use ground::limits;
-use ground::refusals;
 pub use ground::refusals::Refusal;
 pub use header::Given;
 pub use header::Header;
@@ -19,8 +23,6 @@ pub use pack::FindAnswer;
 pub use pack::PackAnswer;
 pub use reader::FontAnswer;
 pub use reader::LookedUp;
-use request::Requested;
-use request::Sought;
 pub use source::Counts;
 pub use source::two::Which;
 pub use stack::StackAnswer;
@@ -51,66 +53,16 @@ ghost use Rattle.packdrawing.specs.PackDrawing.{packLined};
 ghost use Rattle.twofonts.specs.RowOfTwo.{rowOfTwo};
 ghost use Rattle.twofonts.specs.TwoDrawing.{twoLined};
 ghost use Rattle.drawingcheck.specs.CheckDrawing.{drawingChecked};
-ghost use Rattle.request.specs.Request.{rowRequest};
 ghost use Rattle.flc.specs.Lists.{commandLists};
-ghost use Rattle.wattleslate.specs.LookUpCall.{lookUpTells, lookUpTold};
-ghost use Rattle.wattleslate.specs.RowCall.{rowTells, rowTold, rowBytes, LiesAt};
 ghost use Rattle.wattleslate.specs.RowOfTwoCall.{rowOfTwoBytes, LiesInOne};
 ghost use Rattle.wattleslate.specs.ControlCall.{ControlRead};
 ghost use Rattle.wattleslate.specs.MapCall.{mapTells, mapTold};
 ghost use Rattle.wattleslate.specs.DrawCall.{drawTells, drawTold, drawOutput};
 
-// What a look-up answers: which of three it was, with the entry's own code, start and width; or the font's refusal.
-pub enum LookUpAnswer {
-    Looked(LookedUp),
-    Refused(Refusal),
-}
-
-// Whether a row request is refused, and where not, where in the font the row starts and how wide it is.
-pub enum RowRefusal {
-    NotRefused { place: usize, width: usize },
-    Refused(Refusal),
-}
-
 // What mapping a code answers: the new code, or a refusal of the control file.
 pub enum MapAnswer {
     Mapped(Code),
     Refused(Refusal),
-}
-
-// Looks a code up in a font: the last character that has it is found, or else the last with code 0 stands in. The font's refusals.
-pub fn look_up(font: &[u8], code: Code) -> LookUpAnswer
-    ensures answer { λ r. ⌜ lookUpTells r ≡ lookUpTold (now (font .entry)) code ⌝ }
-{
-    match request::seek(font, code) {
-        Sought::Found { height: _, entry } => LookUpAnswer::Looked(reader::which_of(entry, code)),
-        Sought::NoDrawing => LookUpAnswer::Looked(LookedUp::Nothing),
-        Sought::Unread(r) => LookUpAnswer::Refused(r),
-    }
-}
-
-// A row of the character that is used for a code, as a part of the font: its bytes as they stand there. A refused row is empty.
-pub fn row<'a>(font: &'a [u8], code: Code, row: usize) -> &'a [u8]
-    ensures part { λ r. ⌜ now r ≡ rowBytes (now (font .entry)) code row ⌝ }
-    ensures place { λ r. ⌜ LiesAt (font .entry) (rowRequest (now (font .entry)) code row) r ⌝ }
-{
-    match request::request(font, code, row) {
-        Requested::Row { place, width } => {
-            let end = place + width;
-            &font[place..end]
-        }
-        Requested::Refused(_) => &font[0..0],
-    }
-}
-
-// The refusal of the same row request, the font's or else 17; or where in the font the row starts and how wide it is.
-pub fn row_refusal(font: &[u8], code: Code, row: usize) -> RowRefusal
-    ensures answer { λ r. ⌜ rowTells r ≡ rowTold (now (font .entry)) code row ⌝ }
-{
-    match request::request(font, code, row) {
-        Requested::Row { place, width } => RowRefusal::NotRefused { place, width },
-        Requested::Refused(r) => RowRefusal::Refused(r),
-    }
 }
 
 // Reads a control file into four lists of 256 entries or more, with zeros behind: each mapping command's stage, first and last code, and first

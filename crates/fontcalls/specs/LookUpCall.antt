@@ -8,8 +8,8 @@ use Rattle.font.specs.Font.{FontReading, says, refuses, reading}
 use Rattle.reader.specs.declared.LookedUp.the-variants.{Nothing}
 use Rattle.reader.specs.Reader.{lookedUp}
 use Rattle.entries.specs.Finding.{EntryTold, entryTells}
-use Rattle.wattleslate.specs.declared.LookUpAnswer.{LookUpAnswer}
-use Rattle.wattleslate.specs.declared.LookUpAnswer.the-variants.{Looked, Refused}
+use Rattle.fontcalls.specs.declared.LookUpAnswer.{LookUpAnswer}
+use Rattle.fontcalls.specs.declared.LookUpAnswer.the-variants.{Looked, Refused}
 
 -- What an answer tells. "A refusal answers its number and place (0 where none is named); other numbers are 0."
 pub record LookUpTold : Type 0 where

@@ -21,9 +21,9 @@ use Rattle.request.specs.declared.Requested.the-variants as requested-is
 use Rattle.request.specs.Request.{rowRequest}
 use Rattle.request.proofs.RowLaws.{used-stands}
 use Rattle.request.proofs.RequestLaws.{Given, row-fits, row-only, row-if, RequestBad, refused-17, refused-font, refused-some}
-use Rattle.wattleslate.specs.declared.RowRefusal.the-variants.{NotRefused, Refused}
-use Rattle.wattleslate.specs.RowCall.{RowTold, partOf, rowBytes, LiesAt, rowTells, requestTold, rowTold}
-use Rattle.wattleslate.proofs.ToldApart.{row-apart}
+use Rattle.fontcalls.specs.declared.RowRefusal.the-variants.{NotRefused, Refused}
+use Rattle.fontcalls.specs.RowCall.{RowTold, partOf, rowBytes, LiesAt, rowTells, requestTold, rowTold}
+use Rattle.fontcalls.proofs.ToldApart.{row-apart}
 
 -- The answers to a request.
 module _ (s : List ℕ) (c : Code) (r : ℕ) (x : Requested) (p : x ≡ rowRequest s c r) where

@@ -1,10 +1,10 @@
--- `wattleslate::row_refusal` meets its contract, for every input.
+-- `fontcalls::row_refusal` meets its contract, for every input.
 -- Assumes nothing.
 use mathlib.Core.Path.{sym, _∙_}
 use borrow.Author.Needs.{needs}
-use Rattle.wattleslate.proofs.RowLaws.{by-request}
-use Rattle.wattleslate.proofs.row_refusal.Statement.{statement}
-use Rattle.wattleslate.proofs.row_refusal.Tie as tie
+use Rattle.fontcalls.proofs.RowLaws.{by-request}
+use Rattle.fontcalls.proofs.row_refusal.Statement.{statement}
+use Rattle.fontcalls.proofs.row_refusal.Tie as tie
 
 request-requires : tie.Need-request-requires
 request-requires c κs = search needs

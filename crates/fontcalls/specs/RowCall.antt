@@ -10,8 +10,8 @@ use Rattle.subchars.specs.declared.Code.{Code}
 use Rattle.request.specs.declared.Requested.{Requested}
 use Rattle.request.specs.declared.Requested.the-variants as requested-is
 use Rattle.request.specs.Request.{rowRequest}
-use Rattle.wattleslate.specs.declared.RowRefusal.{RowRefusal}
-use Rattle.wattleslate.specs.declared.RowRefusal.the-variants.{NotRefused, Refused}
+use Rattle.fontcalls.specs.declared.RowRefusal.{RowRefusal}
+use Rattle.fontcalls.specs.declared.RowRefusal.the-variants.{NotRefused, Refused}
 
 -- "A row request gives the row as a part of the font"; "a refused row is empty". The part is fixed by its place and its width.
 abbrev pub partOf : List ℕ → Requested → List ℕ

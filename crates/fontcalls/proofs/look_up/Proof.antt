@@ -1,10 +1,10 @@
--- `wattleslate::look_up` meets its contract, for every input.
+-- `fontcalls::look_up` meets its contract, for every input.
 -- Assumes nothing.
 use mathlib.Core.Path.{sym, _∙_}
 use borrow.Author.Needs.{needs}
-use Rattle.wattleslate.proofs.LookUpLaws.{by-found, by-none, by-unread}
-use Rattle.wattleslate.proofs.look_up.Statement.{statement}
-use Rattle.wattleslate.proofs.look_up.Tie as tie
+use Rattle.fontcalls.proofs.LookUpLaws.{by-found, by-none, by-unread}
+use Rattle.fontcalls.proofs.look_up.Statement.{statement}
+use Rattle.fontcalls.proofs.look_up.Tie as tie
 
 seek-requires : tie.Need-seek-requires
 seek-requires c κs = search needs

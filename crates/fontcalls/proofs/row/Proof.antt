@@ -1,13 +1,13 @@
--- `wattleslate::row` meets its contract, for every input: a row that is given is a part of the font.
+-- `fontcalls::row` meets its contract, for every input: a row that is given is a part of the font.
 -- Assumes nothing.
 use mathlib.Core.Path.{refl, sym, _∙_}
 use Prim.Native.Nat.{_+_, _≤_}
 use lib.ListN.{length}
 use borrow.Author.Needs.{needs}
 use Rattle.request.proofs.RequestLaws.{row-fits}
-use Rattle.wattleslate.proofs.RowLaws.{row-part, part-by-request, lies-there, lies-nowhere}
-use Rattle.wattleslate.proofs.row.Statement.{statement}
-use Rattle.wattleslate.proofs.row.Tie as tie
+use Rattle.fontcalls.proofs.RowLaws.{row-part, part-by-request, lies-there, lies-nowhere}
+use Rattle.fontcalls.proofs.row.Statement.{statement}
+use Rattle.fontcalls.proofs.row.Tie as tie
 
 fits : (c : tie.After-known-told) → c .before .place .given .0 .0 + c .before .place .given .0 .1 .0 ≤ length (c .before .before .before .before .before .args .font .now)
 fits c = row-fits (c .before .before .before .before .before .args .font .now) (c .before .before .before .before .before .args .code) (c .before .before .before .before .before .args .row) _ _ (sym (c .before .before .before .request .ensures) ∙ c .before .place .given .1)

@@ -19,9 +19,9 @@ use Rattle.reader.proofs.ThreeLaws.{unused-nothing}
 use Rattle.request.specs.declared.Sought.{Sought}
 use Rattle.request.specs.declared.Sought.the-variants as sought-is
 use Rattle.request.specs.Request.{inFont, sought}
-use Rattle.wattleslate.specs.declared.LookUpAnswer.the-variants.{Looked, Refused}
-use Rattle.wattleslate.specs.LookUpCall.{lookUpTells, toldBy, lookUpTold}
-use Rattle.wattleslate.proofs.ToldApart.{look-up-apart}
+use Rattle.fontcalls.specs.declared.LookUpAnswer.the-variants.{Looked, Refused}
+use Rattle.fontcalls.specs.LookUpCall.{lookUpTells, toldBy, lookUpTold}
+use Rattle.fontcalls.proofs.ToldApart.{look-up-apart}
 
 -- What was sought tells what the look-up answers.
 module _ (s : List ℕ) (c : Code) where
