@@ -12,16 +12,18 @@ use Rattle.ground.specs.Text.{byte}
 use Rattle.ground.proofs.Tests.{or-left}
 use Rattle.subchars.specs.declared.Direction.the-variants.{LeftToRight}
 use Rattle.subchars.specs.declared.Layout.{Layout}
-use Rattle.subchars.specs.declared.Rule.{Rule}
-use Rattle.subchars.specs.declared.Rule.the-variants as horizontal
-use Rattle.subchars.specs.declared.Joint.{Joint}
-use Rattle.subchars.specs.declared.Joint.the-variants.{ByBlank, ByUniversal, ByRule, Unjoinable}
+use Rattle.rules.specs.declared.Rule.{Rule}
+use Rattle.rules.specs.declared.Rule.the-variants as horizontal
+use Rattle.pairs.specs.declared.Joint.{Joint}
+use Rattle.pairs.specs.declared.Joint.the-variants.{ByBlank, ByUniversal, ByRule, Unjoinable}
 use Rattle.subchars.specs.declared.VerticalSmushing.the-variants.{Universal, Controlled}
 use Rattle.subchars.specs.declared.VerticalLayout.{VerticalLayout}
 use Rattle.subchars.specs.declared.VerticalLayout.the-variants.{FullHeight, Fitting, Smushing}
 use Rattle.subchars.specs.Layouts.{has}
-use Rattle.subchars.specs.Pair as horizontal-rules
-use Rattle.subchars.specs.Pair.{blank, joinedIf, orElse, isSome, equalCharacter, underscore, hierarchy, oppositePair, bigX, unlessHardblank, joinedBy, controlled, universal, joint, reads, eitherOrder}
+use Rattle.pairs.specs.Pair as horizontal-rules
+use Rattle.subchars.specs.Hardblank.{blank}
+use Rattle.rules.specs.Rules.{joinedIf, orElse, isSome, equalCharacter, underscore, hierarchy, oppositePair, bigX, unlessHardblank, reads, eitherOrder}
+use Rattle.pairs.specs.Pair.{joinedBy, controlled, universal, joint}
 use Rattle.vertical.specs.declared.Merge.{Merge}
 use Rattle.vertical.specs.declared.Merge.the-variants.{Into, Apart}
 use Rattle.vertical.specs.VerticalPair.{HorizontalLine, VerticalLine, setHas, horizontalLine, twoBars, firstMerging, withoutBlank, merge, merges, mergedByte, barred}
