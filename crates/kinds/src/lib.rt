@@ -1,7 +1,7 @@
 // Which rules join a pair, by the kinds of its two sub-characters.
 use subchars::SubCharacter;
 ghost use mathlib.Core.Path.{_≡_};
-ghost use Prim.Native.Nat.{ℕ, _<_};
+ghost use Prim.Native.Nat.{_<_};
 ghost use lib.ListN.{getD};
 ghost use Rattle.subchars.specs.Hardblank.{blank};
 ghost use Rattle.kinds.specs.Kinds.{kindOf, ruleEntry, rulesJoining};

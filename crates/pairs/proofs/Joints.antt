@@ -11,8 +11,8 @@ use Rattle.subchars.specs.declared.Layout.the-variants.{Smushing}
 use Rattle.subchars.specs.declared.Smushing.the-variants.{Universal, Controlled}
 use Rattle.subchars.specs.declared.SubCharacter.{SubCharacter}
 use Rattle.subchars.specs.declared.Mode.{Mode}
-use Rattle.pairs.specs.declared.Joint.the-variants.{ByBlank}
 use Rattle.subchars.specs.Hardblank.{blank}
+use Rattle.pairs.specs.declared.Joint.the-variants.{ByBlank}
 use Rattle.pairs.specs.Pair.{controlled, universal, withoutBlank, joint, isJoined, joins, EveryRuleOf}
 use Rattle.pairs.proofs.Sets.{controlled-more}
 

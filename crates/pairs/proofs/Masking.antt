@@ -12,14 +12,14 @@ use borrow.Author.Tests.{eq-eqb, ne-eqb, eqb-true, eqb-false}
 use Rattle.ground.proofs.Tests.{same-test, never-both}
 use Rattle.rules.specs.declared.Rule.{Rule}
 use Rattle.rules.specs.declared.Rule.the-variants.{EqualCharacter, Underscore, Hierarchy, OppositePair, BigX, Hardblank}
-use Rattle.pairs.specs.declared.Joint.the-variants.{Unjoinable}
 use Rattle.rules.specs.Rules.{isSome, byRule, ruleNumber, rules}
-use Rattle.pairs.specs.Pair.{inSet, controlled, isJoined, byteOf}
-use Rattle.kinds.specs.Kinds.{rulesJoining}
-use Rattle.pairs.specs.Steps.{itsRule, kept}
 use Rattle.rules.proofs.Rules.{is-some, joined-by-only}
-use Rattle.pairs.proofs.Sets.{listed, by, every-rule, Tried, joined, unjoined, by-any, controlled-by, kept-all}
 use Rattle.rules.proofs.Deciding.{same-number}
+use Rattle.kinds.specs.Kinds.{rulesJoining}
+use Rattle.pairs.specs.declared.Joint.the-variants.{Unjoinable}
+use Rattle.pairs.specs.Pair.{inSet, controlled, isJoined, byteOf}
+use Rattle.pairs.specs.Steps.{itsRule, kept}
+use Rattle.pairs.proofs.Sets.{listed, by, every-rule, Tried, joined, unjoined, by-any, controlled-by, kept-all}
 
 -- what a set and a rule's number have in common
 shared : (set : ℕ) (p : Rule) → bitAnd set (ruleNumber p) ≡ set / ruleNumber p % 2 * ruleNumber p

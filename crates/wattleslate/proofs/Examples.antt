@@ -15,11 +15,11 @@ use Rattle.subchars.specs.declared.Direction.the-variants.{LeftToRight}
 use Rattle.subchars.specs.declared.Layout.{Layout}
 use Rattle.subchars.specs.declared.Layout.the-variants.{FullWidth, Fitting, Smushing}
 use Rattle.subchars.specs.declared.Smushing.the-variants.{Universal, Controlled}
-use Rattle.rules.specs.declared.Rule.the-variants.{Hierarchy, BigX, Hardblank}
 use Rattle.subchars.specs.declared.Mode.{Mode}
+use Rattle.subchars.specs.Layouts.{fullLayout}
+use Rattle.rules.specs.declared.Rule.the-variants.{Hierarchy, BigX, Hardblank}
 use Rattle.pairs.specs.declared.Joint.{Joint}
 use Rattle.pairs.specs.declared.Joint.the-variants.{ByUniversal, ByRule, Unjoinable}
-use Rattle.subchars.specs.Layouts.{fullLayout}
 use Rattle.header.specs.declared.Given.the-variants.{Absent, Of}
 use Rattle.header.specs.Header.{layoutOf}
 use Rattle.subchars.specs.Hardblank.{legalHardblank}

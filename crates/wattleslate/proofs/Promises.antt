@@ -32,15 +32,15 @@ use Rattle.subchars.specs.declared.VerticalLayout.{VerticalLayout}
 use Rattle.subchars.specs.declared.VerticalLayout.the-variants as vertical
 use Rattle.subchars.specs.declared.VerticalSmushing.the-variants as vertically
 use Rattle.subchars.specs.declared.Mode.{Mode}
-use Rattle.rules.specs.declared.Rule.{Rule}
-use Rattle.pairs.specs.declared.Joint.the-variants.{ByRule}
 use Rattle.subchars.specs.Layouts.{has, verticalValues, fullVertical}
 use Rattle.subchars.specs.Hardblank.{blank, blanked, legalHardblank}
+use Rattle.rules.specs.declared.Rule.{Rule}
 use Rattle.rules.specs.Rules.{byRule}
-use Rattle.pairs.specs.Pair.{joins, inSet, controlled, EveryRuleOf}
+use Rattle.rules.proofs.Rules as rules
 use Rattle.kinds.specs.Kinds.{kindOf, ruleEntry, rulesJoining}
 use Rattle.kinds.proofs.PairRules as pair-table
-use Rattle.rules.proofs.Rules as rules
+use Rattle.pairs.specs.declared.Joint.the-variants.{ByRule}
+use Rattle.pairs.specs.Pair.{joins, inSet, controlled, EveryRuleOf}
 use Rattle.pairs.proofs.Sets as sets
 use Rattle.pairs.proofs.Joints as joints
 use Rattle.vertical.specs.VerticalPair.{VerticalRule, EqualCharacter, VerticalLine, ruleValue, setHas, twoBars, ruleMerges, merges, mergedByte, barred, otherRules, EveryVerticalRuleOf}

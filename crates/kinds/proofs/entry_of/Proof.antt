@@ -1,16 +1,17 @@
 -- `kinds::entry_of` meets its contract: each arm has the row of its kind.
 -- Assumes nothing.
-use mathlib.Core.Path.{refl, _∙_, ap}
+use mathlib.Core.Path.{_≡_, refl, _∙_, ap}
 use Prim.Native.Nat.{ℕ}
-use Rattle.kinds.specs.Kinds.{ruleEntry}
-use Rattle.kinds.proofs.PairRules.{kind-hardblank, kind-of-byte, kind-other}
+use Rattle.kinds.specs.Kinds.{kindOf, ruleEntry}
+use Rattle.kinds.proofs.PairRules.{visibleKind, kind-hardblank, kind-of-byte, kind-other}
 use borrow.Author.Needs.{needs}
 use Rattle.kinds.proofs.entry_of.Statement.{statement}
 use Rattle.kinds.proofs.entry_of.Tie as tie
 
--- the entry of a column in the row of a kind
-abbrev row : ℕ → ℕ → ℕ
-row kind i = ruleEntry i kind
+-- an arm has the row of its kind, for a byte that is not the hardblank
+module _ (h l kind : ℕ) (seen : l ≡ h → ⊥) where
+  arm : (y k : ℕ) {n : ℕ} → l ≡ y → visibleKind y ≡ k → n ≡ ruleEntry k kind → n ≡ ruleEntry (kindOf h l) kind
+  arm y k e v q = q ∙ ap (λ (i : ℕ). ruleEntry i kind) (kind-of-byte h l seen y k e v)
 
 array-copy-out-entry-in : tie.Need-array-copy-out-entry-in
 array-copy-out-entry-in c = search needs
@@ -21,7 +22,7 @@ entry-in-requires c κs = search needs
 returns : tie.Need-returns
 returns c =
     let a = c .before .before .before .before .before .args in
-    c .entry-in .ensures ∙ ap (row (a .kind)) (kind-hardblank (a .hardblank .0) (a .left .0) (c .before .before .if1 .taken))
+    c .entry-in .ensures ∙ ap (λ (i : ℕ). ruleEntry i (a .kind)) (kind-hardblank (a .hardblank .0) (a .left .0) (c .before .before .if1 .taken))
 
 array-copy-out-entry-in-2 : tie.Need-array-copy-out-entry-in-2
 array-copy-out-entry-in-2 c = search needs
@@ -110,73 +111,73 @@ entry-in-requires-15 c κs = search needs
 returns-2 : tie.Need-returns-2
 returns-2 c =
     let a = c .before .before .before .before .before .before .args in
-    c .entry-in2 .ensures ∙ ap (row (a .kind)) (kind-of-byte (a .hardblank .0) (a .left .0) (c .before .before .before .if1 .left) 32 0 (c .before .before .match .keys1) refl)
+    arm (a .hardblank .0) (a .left .0) (a .kind) (c .before .before .before .if1 .left) 32 0 (c .before .before .match .keys1) refl (c .entry-in2 .ensures)
 
 returns-3 : tie.Need-returns-3
 returns-3 c =
     let a = c .before .before .before .before .before .before .args in
-    c .entry-in3 .ensures ∙ ap (row (a .kind)) (kind-of-byte (a .hardblank .0) (a .left .0) (c .before .before .before .if1 .left) 95 2 (c .before .before .match .keys2) refl)
+    arm (a .hardblank .0) (a .left .0) (a .kind) (c .before .before .before .if1 .left) 95 2 (c .before .before .match .keys2) refl (c .entry-in3 .ensures)
 
 returns-4 : tie.Need-returns-4
 returns-4 c =
     let a = c .before .before .before .before .before .before .args in
-    c .entry-in4 .ensures ∙ ap (row (a .kind)) (kind-of-byte (a .hardblank .0) (a .left .0) (c .before .before .before .if1 .left) 124 3 (c .before .before .match .keys3) refl)
+    arm (a .hardblank .0) (a .left .0) (a .kind) (c .before .before .before .if1 .left) 124 3 (c .before .before .match .keys3) refl (c .entry-in4 .ensures)
 
 returns-5 : tie.Need-returns-5
 returns-5 c =
     let a = c .before .before .before .before .before .before .args in
-    c .entry-in5 .ensures ∙ ap (row (a .kind)) (kind-of-byte (a .hardblank .0) (a .left .0) (c .before .before .before .if1 .left) 47 4 (c .before .before .match .keys4) refl)
+    arm (a .hardblank .0) (a .left .0) (a .kind) (c .before .before .before .if1 .left) 47 4 (c .before .before .match .keys4) refl (c .entry-in5 .ensures)
 
 returns-6 : tie.Need-returns-6
 returns-6 c =
     let a = c .before .before .before .before .before .before .args in
-    c .entry-in6 .ensures ∙ ap (row (a .kind)) (kind-of-byte (a .hardblank .0) (a .left .0) (c .before .before .before .if1 .left) 92 5 (c .before .before .match .keys5) refl)
+    arm (a .hardblank .0) (a .left .0) (a .kind) (c .before .before .before .if1 .left) 92 5 (c .before .before .match .keys5) refl (c .entry-in6 .ensures)
 
 returns-7 : tie.Need-returns-7
 returns-7 c =
     let a = c .before .before .before .before .before .before .args in
-    c .entry-in7 .ensures ∙ ap (row (a .kind)) (kind-of-byte (a .hardblank .0) (a .left .0) (c .before .before .before .if1 .left) 91 6 (c .before .before .match .keys6) refl)
+    arm (a .hardblank .0) (a .left .0) (a .kind) (c .before .before .before .if1 .left) 91 6 (c .before .before .match .keys6) refl (c .entry-in7 .ensures)
 
 returns-8 : tie.Need-returns-8
 returns-8 c =
     let a = c .before .before .before .before .before .before .args in
-    c .entry-in8 .ensures ∙ ap (row (a .kind)) (kind-of-byte (a .hardblank .0) (a .left .0) (c .before .before .before .if1 .left) 93 7 (c .before .before .match .keys7) refl)
+    arm (a .hardblank .0) (a .left .0) (a .kind) (c .before .before .before .if1 .left) 93 7 (c .before .before .match .keys7) refl (c .entry-in8 .ensures)
 
 returns-9 : tie.Need-returns-9
 returns-9 c =
     let a = c .before .before .before .before .before .before .args in
-    c .entry-in9 .ensures ∙ ap (row (a .kind)) (kind-of-byte (a .hardblank .0) (a .left .0) (c .before .before .before .if1 .left) 123 8 (c .before .before .match .keys8) refl)
+    arm (a .hardblank .0) (a .left .0) (a .kind) (c .before .before .before .if1 .left) 123 8 (c .before .before .match .keys8) refl (c .entry-in9 .ensures)
 
 returns-10 : tie.Need-returns-10
 returns-10 c =
     let a = c .before .before .before .before .before .before .args in
-    c .entry-in10 .ensures ∙ ap (row (a .kind)) (kind-of-byte (a .hardblank .0) (a .left .0) (c .before .before .before .if1 .left) 125 9 (c .before .before .match .keys9) refl)
+    arm (a .hardblank .0) (a .left .0) (a .kind) (c .before .before .before .if1 .left) 125 9 (c .before .before .match .keys9) refl (c .entry-in10 .ensures)
 
 returns-11 : tie.Need-returns-11
 returns-11 c =
     let a = c .before .before .before .before .before .before .args in
-    c .entry-in11 .ensures ∙ ap (row (a .kind)) (kind-of-byte (a .hardblank .0) (a .left .0) (c .before .before .before .if1 .left) 40 10 (c .before .before .match .keys10) refl)
+    arm (a .hardblank .0) (a .left .0) (a .kind) (c .before .before .before .if1 .left) 40 10 (c .before .before .match .keys10) refl (c .entry-in11 .ensures)
 
 returns-12 : tie.Need-returns-12
 returns-12 c =
     let a = c .before .before .before .before .before .before .args in
-    c .entry-in12 .ensures ∙ ap (row (a .kind)) (kind-of-byte (a .hardblank .0) (a .left .0) (c .before .before .before .if1 .left) 41 11 (c .before .before .match .keys11) refl)
+    arm (a .hardblank .0) (a .left .0) (a .kind) (c .before .before .before .if1 .left) 41 11 (c .before .before .match .keys11) refl (c .entry-in12 .ensures)
 
 returns-13 : tie.Need-returns-13
 returns-13 c =
     let a = c .before .before .before .before .before .before .args in
-    c .entry-in13 .ensures ∙ ap (row (a .kind)) (kind-of-byte (a .hardblank .0) (a .left .0) (c .before .before .before .if1 .left) 60 12 (c .before .before .match .keys12) refl)
+    arm (a .hardblank .0) (a .left .0) (a .kind) (c .before .before .before .if1 .left) 60 12 (c .before .before .match .keys12) refl (c .entry-in13 .ensures)
 
 returns-14 : tie.Need-returns-14
 returns-14 c =
     let a = c .before .before .before .before .before .before .args in
-    c .entry-in14 .ensures ∙ ap (row (a .kind)) (kind-of-byte (a .hardblank .0) (a .left .0) (c .before .before .before .if1 .left) 62 13 (c .before .before .match .keys13) refl)
+    arm (a .hardblank .0) (a .left .0) (a .kind) (c .before .before .before .if1 .left) 62 13 (c .before .before .match .keys13) refl (c .entry-in14 .ensures)
 
 returns-15 : tie.Need-returns-15
 returns-15 c =
     let a = c .before .before .before .before .before .before .args in
     let r = c .before .before .match .rest in
-    c .entry-in15 .ensures ∙ ap (row (a .kind)) (kind-other (a .hardblank .0) (a .left .0) (c .before .before .before .if1 .left) (r .0 .0 .0 .0 .0 .0 .0 .0 .0 .0 .0 .0 .1) (r .0 .0 .0 .0 .0 .0 .0 .0 .0 .0 .0 .1) (r .0 .0 .0 .0 .0 .0 .0 .0 .0 .0 .1) (r .0 .0 .0 .0 .0 .0 .0 .0 .0 .1) (r .0 .0 .0 .0 .0 .0 .0 .0 .1) (r .0 .0 .0 .0 .0 .0 .0 .1) (r .0 .0 .0 .0 .0 .0 .1) (r .0 .0 .0 .0 .0 .1) (r .0 .0 .0 .0 .1) (r .0 .0 .0 .1) (r .0 .0 .1) (r .0 .1) (r .1))
+    c .entry-in15 .ensures ∙ ap (λ (i : ℕ). ruleEntry i (a .kind)) (kind-other (a .hardblank .0) (a .left .0) (c .before .before .before .if1 .left) (r .0 .0 .0 .0 .0 .0 .0 .0 .0 .0 .0 .0 .1) (r .0 .0 .0 .0 .0 .0 .0 .0 .0 .0 .0 .1) (r .0 .0 .0 .0 .0 .0 .0 .0 .0 .0 .1) (r .0 .0 .0 .0 .0 .0 .0 .0 .0 .1) (r .0 .0 .0 .0 .0 .0 .0 .0 .1) (r .0 .0 .0 .0 .0 .0 .0 .1) (r .0 .0 .0 .0 .0 .0 .1) (r .0 .0 .0 .0 .0 .1) (r .0 .0 .0 .0 .1) (r .0 .0 .0 .1) (r .0 .0 .1) (r .0 .1) (r .1))
 
 pub entry-of-spec : {M : Type 1} → statement M
 entry-of-spec =

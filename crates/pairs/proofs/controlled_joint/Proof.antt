@@ -6,10 +6,10 @@ use Prim.Native.Nat.{ℕ}
 use lib.Bits.{bitAnd}
 use Rattle.subchars.specs.declared.SubCharacter.{SubCharacter}
 use Rattle.rules.specs.declared.Rule.{Rule}
-use Rattle.pairs.specs.declared.Joint.the-variants.{ByRule, Unjoinable}
 use Rattle.rules.specs.Rules.{byRule, ruleNumber}
-use Rattle.pairs.specs.Pair.{controlled}
 use Rattle.kinds.specs.Kinds.{rulesJoining}
+use Rattle.pairs.specs.declared.Joint.the-variants.{ByRule, Unjoinable}
+use Rattle.pairs.specs.Pair.{controlled}
 use Rattle.pairs.proofs.Masking.{Masked, ruled, unruled, masked, positive-not}
 use borrow.Author.Needs.{needs}
 use Rattle.pairs.proofs.controlled_joint.Statement.{statement}
