@@ -16,7 +16,7 @@ use Rattle.ground.specs.Limits.{maxLineWidth, maxText, minScratch}
 use Rattle.ground.specs.Refusals.{refusal, tooManyCharacters, areaTooSmall, controlFileTooLong, tooManyCommands, textTooLong, lineTooWide}
 use Rattle.ground.specs.declared.refusals.Refusal.{Refusal}
 use Rattle.ground.proofs.Areas.{padded-at}
-use Rattle.subchars.specs.Pair.{blanked}
+use Rattle.subchars.specs.Hardblank.{blanked}
 use Rattle.join.specs.Join.{Block}
 use Rattle.join.proofs.Rows.{row-room}
 use Rattle.figure.specs.Line.{shown, outputOf, outputBytes, putOnly}

@@ -9,7 +9,7 @@ use lib.Dec.{leb}
 use lib.ListN.{length, take}
 use borrow.Author.Tests.{le-leb, lt-leb, leb-true}
 use Rattle.ground.proofs.Tests.{and-left, and-right, clash}
-use Rattle.subchars.specs.Pair.{legalHardblank}
+use Rattle.subchars.specs.Hardblank.{legalHardblank}
 use Rattle.records.specs.declared.Head.{Head}
 use Rattle.records.specs.Versions.{headLength}
 use Rattle.heads.specs.declared.HeadStep.{HeadStep}

@@ -8,7 +8,7 @@ use lib.ListN.{length, take, drop, getD}
 use Rattle.ground.specs.Limits.{maxHeight, maxPackLength, minPackLength}
 use Rattle.ground.specs.Text.{byte}
 use Rattle.ground.specs.Area.{padded}
-use Rattle.subchars.specs.Pair.{legalHardblank}
+use Rattle.subchars.specs.Hardblank.{legalHardblank}
 use Rattle.areas.specs.Numbers.{numberOf}
 use Rattle.records.specs.declared.Head.{Head}
 use Rattle.records.specs.Versions.{headLength}

@@ -16,7 +16,7 @@ use Rattle.subchars.specs.declared.Layout.{Layout}
 use Rattle.subchars.specs.declared.Layout.the-variants.{FullWidth, Fitting, Smushing}
 use Rattle.subchars.specs.declared.Smushing.the-variants.{Universal, Controlled}
 use Rattle.subchars.specs.declared.Mode.{Mode}
-use Rattle.subchars.specs.Pair.{legalHardblank}
+use Rattle.subchars.specs.Hardblank.{legalHardblank}
 use Rattle.join.specs.Join.{Block, exactBlock, leftOf, rightOf, overlap, besides}
 use Rattle.join.specs.Shape.{goodKind, goodLayout, goodBlock, goodShape}
 use Rattle.join.specs.declared.JoinAnswer.the-variants.{Joined, Refused}

@@ -12,7 +12,7 @@ use borrow.Author.Tests.{eqb-true, eqb-false, ne-eqb, eq-eqb, leb-true, leb-fals
 use Rattle.ground.specs.Limits.{maxHeight, maxPackLength, minPackLength}
 use Rattle.ground.specs.Runs.{all}
 use Rattle.ground.proofs.Tests.{and-left, and-right, and-none, never-both, not-true-false, clash}
-use Rattle.subchars.specs.Pair.{legalHardblank}
+use Rattle.subchars.specs.Hardblank.{legalHardblank}
 use Rattle.rows.specs.Rows.{legalByte}
 use Rattle.records.specs.declared.Head.{Head}
 use Rattle.records.specs.Versions.{headLength, recordHeadLength, maxWidth}

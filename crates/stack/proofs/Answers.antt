@@ -15,7 +15,7 @@ use Rattle.ground.proofs.Tests.{and-none, and-left, and-right, not-true-false, 
 use Rattle.subchars.specs.declared.VerticalSmushing.the-variants.{Universal, Controlled}
 use Rattle.subchars.specs.declared.VerticalLayout.{VerticalLayout}
 use Rattle.subchars.specs.declared.VerticalLayout.the-variants.{FullHeight, Fitting, Smushing}
-use Rattle.subchars.specs.Pair.{legalHardblank}
+use Rattle.subchars.specs.Hardblank.{legalHardblank}
 use Rattle.vertical.specs.VerticalPair.{goodSet, goodVertical}
 use Rattle.vertical.proofs.GoodSets.{SumOfRules, good-sum, sum-good}
 use Rattle.join.specs.Join.{exactBlock}

@@ -7,7 +7,7 @@ use native.Mathlib.Omega.{arith}
 use native.Mathlib.Decide.{decLt}
 use lib.ListN.{length, getD}
 use borrow.Author.Tests.{lt-ltb, le-ltb}
-use Rattle.subchars.specs.Pair.{blank, blanked}
+use Rattle.subchars.specs.Hardblank.{blank, blanked}
 use Rattle.lanes.specs.declared.View.{View}
 use Rattle.lanes.specs.Blocks.{cellsOf, blankedCells, Inside, Agree}
 use Rattle.lanes.proofs.Fitting.{has-left, has-right}

@@ -10,11 +10,11 @@ use native.Mathlib.Omega.{arith}
 use lib.Dec.{eqb, ltb}
 use borrow.Author.Tests.{lt-ltb, le-ltb, eqb-true, ltb-true, ltb-false}
 use Rattle.ground.proofs.Tests.{or-elim}
-use Rattle.subchars.specs.Pair.{blank}
 use Rattle.subchars.specs.declared.VerticalSmushing.{VerticalSmushing}
 use Rattle.subchars.specs.declared.VerticalSmushing.the-variants.{Universal, Controlled}
 use Rattle.subchars.specs.declared.VerticalLayout.{VerticalLayout}
 use Rattle.subchars.specs.declared.VerticalLayout.the-variants.{FullHeight, Fitting, Smushing}
+use Rattle.subchars.specs.Hardblank.{blank}
 use Rattle.lanes.specs.Blocks.{Cells}
 use Rattle.lanes.specs.Overlap.{hasBlank, furthest, fitting, smushing}
 use Rattle.lanes.proofs.Demand as lanes

@@ -14,7 +14,8 @@ use Rattle.ground.specs.Refusals.{areaTooSmall, badShape, stackTooHigh}
 use Rattle.subchars.specs.declared.VerticalSmushing.the-variants.{Universal, Controlled}
 use Rattle.subchars.specs.declared.VerticalLayout.{VerticalLayout}
 use Rattle.subchars.specs.declared.VerticalLayout.the-variants.{FullHeight, Fitting, Smushing}
-use Rattle.subchars.specs.Pair.{legalHardblank, joinedIf, orElse, isSome, equalCharacter, underscore, classOf, hierarchy}
+use Rattle.subchars.specs.Hardblank.{legalHardblank}
+use Rattle.rules.specs.Rules.{joinedIf, orElse, isSome, equalCharacter, underscore, classOf, hierarchy}
 use Rattle.lanes.specs.Overlap.{laneFacing, facing, hasBlank, fitting, oneMore, smushing}
 use Rattle.lanes.specs.Joined.{joinedCells}
 use Rattle.vertical.specs.VerticalPair.{horizontalLine, twoBars, merge, merges, mergedByte, barred}

@@ -10,7 +10,7 @@ use native.Mathlib.Numerals.{add-one}
 use Rattle.ground.specs.Count.{every}
 use Rattle.ground.proofs.Tests.{same-test}
 use Rattle.ground.proofs.Counting.{every-at, every-of, every-cong, reach-is}
-use Rattle.subchars.specs.Pair.{blanked}
+use Rattle.subchars.specs.Hardblank.{blanked}
 use Rattle.lanes.specs.Blocks.{Cells}
 use Rattle.lanes.specs.Overlap.{facing, furthest}
 use Rattle.lanes.proofs.Fitting.{facing-none}

@@ -4,7 +4,7 @@ use mathlib.Core.Path.{_≡_, _∙_}
 use Prim.Native.Nat.{ℕ, _<_, _≤_}
 use native.Mathlib.Omega.{arith}
 use borrow.Author.Tests.{eq-eqb}
-use Rattle.subchars.specs.Pair.{blank}
+use Rattle.subchars.specs.Hardblank.{blank}
 use Rattle.lanes.specs.Blocks.{Agree}
 use Rattle.lanes.proofs.Blanking.{other-stays}
 use Rattle.join.specs.Join.{Block}

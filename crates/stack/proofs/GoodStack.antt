@@ -9,7 +9,7 @@ use lib.ListN.{length}
 use Rattle.ground.specs.Limits.{maxHeight, maxStackHeight, maxLineWidth}
 use Rattle.ground.proofs.Tests.{and-left, and-right}
 use Rattle.subchars.specs.declared.VerticalLayout.{VerticalLayout}
-use Rattle.subchars.specs.Pair.{legalHardblank}
+use Rattle.subchars.specs.Hardblank.{legalHardblank}
 use Rattle.join.specs.Shape.{goodBlock}
 use Rattle.join.proofs.GoodShape.{block-good}
 use Rattle.join.proofs.Rows.{row-room}

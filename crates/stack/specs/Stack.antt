@@ -3,10 +3,10 @@
 use Prim.Native.Nat.{ℕ, _+_, _-_, max}
 use mathlib.Core.Bool.{cond}
 use lib.Dec.{ltb}
-use Rattle.subchars.specs.Pair.{blank, blanked}
 use Rattle.subchars.specs.declared.VerticalSmushing.the-variants.{Universal, Controlled}
 use Rattle.subchars.specs.declared.VerticalLayout.{VerticalLayout}
 use Rattle.subchars.specs.declared.VerticalLayout.the-variants.{FullHeight, Fitting, Smushing}
+use Rattle.subchars.specs.Hardblank.{blank, blanked}
 use Rattle.lanes.specs.Blocks.{Cells}
 use Rattle.lanes.specs.Overlap.{furthest, fitting, smushing}
 use Rattle.lanes.specs.Joined.{joinedCells}

@@ -10,7 +10,7 @@ use Rattle.ground.specs.Area.{zeros, padded}
 use Rattle.ground.specs.Limits.{maxHeight, maxStackHeight, maxLineWidth}
 use Rattle.ground.specs.Refusals.{areaTooSmall, badShape, stackTooHigh}
 use Rattle.subchars.specs.declared.VerticalLayout.{VerticalLayout}
-use Rattle.subchars.specs.Pair.{legalHardblank}
+use Rattle.subchars.specs.Hardblank.{legalHardblank}
 use Rattle.vertical.specs.VerticalPair.{goodVertical}
 use Rattle.join.specs.Join.{exactBlock, rowsOf}
 use Rattle.join.specs.Shape.{goodBlock}

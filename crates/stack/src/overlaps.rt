@@ -11,7 +11,7 @@ ghost use Prim.Native.Nat.{ℕ, _+_, _≤_, min};
 ghost use lib.ListN.{length};
 ghost use Rattle.ground.specs.Count.{every};
 ghost use Rattle.ground.specs.Limits.{maxLineWidth};
-ghost use Rattle.subchars.specs.Pair.{blanked};
+ghost use Rattle.subchars.specs.Hardblank.{blanked};
 ghost use Rattle.lanes.specs.Overlap.{facing, furthest, fitting, smushing};
 ghost use Rattle.join.specs.Writing.{fromOn, RowAfterRow};
 ghost use Rattle.vertical.specs.VerticalPair.{passing};

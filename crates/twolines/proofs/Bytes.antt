@@ -8,7 +8,7 @@ use lib.ListN.{getD}
 use Rattle.ground.specs.Area.{padded}
 use Rattle.ground.specs.Text.{byte}
 use Rattle.ground.proofs.Areas.{padded-at}
-use Rattle.subchars.specs.Pair.{blank}
+use Rattle.subchars.specs.Hardblank.{blank}
 use Rattle.lanes.proofs.Blanking.{nothing-hard}
 use Rattle.join.proofs.Rows.{row-room}
 use Rattle.figure.proofs.Showing.{shown-byte, shown-lf, length-shown}

@@ -19,7 +19,7 @@ use Rattle.subchars.specs.declared.Direction.{Direction}
 use Rattle.subchars.specs.declared.Direction.the-variants.{LeftToRight, RightToLeft}
 use Rattle.subchars.specs.declared.Mode.{Mode}
 use Rattle.subchars.specs.declared.VerticalLayout.{VerticalLayout}
-use Rattle.subchars.specs.Pair.{blank, blanked}
+use Rattle.subchars.specs.Hardblank.{blank, blanked}
 use Rattle.lanes.proofs.Blanking.{nothing-hard}
 use Rattle.join.specs.Join.{Block, rowsOf}
 use Rattle.join.proofs.Rows.{rows-cong, row-room}

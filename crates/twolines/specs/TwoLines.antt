@@ -11,7 +11,7 @@ use Rattle.ground.specs.declared.refusals.Refusal.{Refusal}
 use Rattle.subchars.specs.declared.VerticalLayout.{VerticalLayout}
 use Rattle.subchars.specs.declared.VerticalLayout.the-variants.{FullHeight}
 use Rattle.subchars.specs.Layouts.{fullVertical}
-use Rattle.subchars.specs.Pair.{blank}
+use Rattle.subchars.specs.Hardblank.{blank}
 use Rattle.header.specs.declared.Given.{Given}
 use Rattle.header.specs.declared.Given.the-variants.{Absent, Of}
 use Rattle.font.specs.Font as font

@@ -12,7 +12,8 @@ use Rattle.subchars.specs.declared.VerticalSmushing.the-variants.{Universal, Co
 use Rattle.subchars.specs.declared.VerticalLayout.{VerticalLayout}
 use Rattle.subchars.specs.declared.VerticalLayout.the-variants.{FullHeight, Fitting, Smushing}
 use Rattle.subchars.specs.Layouts.{has}
-use Rattle.subchars.specs.Pair.{blank, joinedIf, orElse, isSome, equalCharacter, underscore, hierarchy, reads, eitherOrder}
+use Rattle.subchars.specs.Hardblank.{blank}
+use Rattle.rules.specs.Rules.{joinedIf, orElse, isSome, equalCharacter, underscore, hierarchy, reads, eitherOrder}
 use Rattle.vertical.specs.declared.PairTest.{PairTest}
 use Rattle.vertical.specs.declared.PairTest.the-variants.{ByLayout, Bars}
 

@@ -1,6 +1,6 @@
 // The vertical pair decision: what a pair of sub-characters that lie above one another becomes. Hardblanks are blanks by then.
+use pairs::Joint;
 use subchars::Direction;
-use subchars::Joint;
 use subchars::Layout;
 use subchars::Mode;
 use subchars::Smushing;
@@ -8,7 +8,7 @@ use subchars::SubCharacter;
 use subchars::VerticalLayout;
 use subchars::VerticalSmushing;
 ghost use mathlib.Core.Path.{_≡_};
-ghost use Rattle.subchars.specs.Pair.{eitherOrder};
+ghost use Rattle.rules.specs.Rules.{eitherOrder};
 ghost use Rattle.vertical.specs.VerticalPair.{setHas, twoBars, firstMerging, merge, merges, mergedByte, barred, passing, goodSet, goodVertical};
 ghost use Rattle.vertical.specs.Steps.{sidewaysLayout, rulesOf, lineRules, told};
 
@@ -95,7 +95,7 @@ fn merge_of(layout: VerticalLayout, u: SubCharacter, l: SubCharacter) -> Merge
         direction: Direction::LeftToRight,
         hardblank: SubCharacter(b' '),
     };
-    match subchars::pairs::joint_of(sideways, u, l) {
+    match pairs::joint_of(sideways, u, l) {
         Joint::ByBlank(x) => Merge::Into(x),
         Joint::ByUniversal(x) => Merge::Into(x),
         Joint::ByRule(_, x) => Merge::Into(x),

@@ -32,14 +32,17 @@ use Rattle.subchars.specs.declared.VerticalLayout.{VerticalLayout}
 use Rattle.subchars.specs.declared.VerticalLayout.the-variants as vertical
 use Rattle.subchars.specs.declared.VerticalSmushing.the-variants as vertically
 use Rattle.subchars.specs.declared.Mode.{Mode}
-use Rattle.subchars.specs.declared.Rule.{Rule}
-use Rattle.subchars.specs.declared.Joint.the-variants.{ByRule}
 use Rattle.subchars.specs.Layouts.{has, verticalValues, fullVertical}
-use Rattle.subchars.specs.Pair.{blank, blanked, joins, inSet, byRule, controlled, EveryRuleOf, legalHardblank}
-use Rattle.subchars.specs.Steps.{kindOf, ruleEntry, rulesJoining}
-use Rattle.subchars.proofs.PairRules as pair-table
-use Rattle.subchars.proofs.Rules as rules
-use Rattle.subchars.proofs.Joints as joints
+use Rattle.subchars.specs.Hardblank.{blank, blanked, legalHardblank}
+use Rattle.rules.specs.declared.Rule.{Rule}
+use Rattle.rules.specs.Rules.{byRule}
+use Rattle.rules.proofs.Rules as rules
+use Rattle.kinds.specs.Kinds.{kindOf, ruleEntry, rulesJoining}
+use Rattle.kinds.proofs.PairRules as pair-table
+use Rattle.pairs.specs.declared.Joint.the-variants.{ByRule}
+use Rattle.pairs.specs.Pair.{joins, inSet, controlled, EveryRuleOf}
+use Rattle.pairs.proofs.Sets as sets
+use Rattle.pairs.proofs.Joints as joints
 use Rattle.vertical.specs.VerticalPair.{VerticalRule, EqualCharacter, VerticalLine, ruleValue, setHas, twoBars, ruleMerges, merges, mergedByte, barred, otherRules, EveryVerticalRuleOf}
 use Rattle.vertical.proofs.VerticalRules as vertical-rules
 use Rattle.vertical.proofs.GoodSets as vertical-sets
@@ -563,7 +566,7 @@ no-pair-by-two-rules = rules.one-rule
 
 -- "Its rule in the set": a rule of the set that joins a pair without a blank gives its byte.
 rule-of-the-set-joins : (set h l r : ℕ) (rule : Rule) (x : ℕ) → inSet set rule ≡ true → byRule rule h l r ≡ some x → controlled set h l r ≡ ByRule rule (record { 0 = x })
-rule-of-the-set-joins = rules.controlled-by
+rule-of-the-set-joins = sets.controlled-by
 
 -- "Universal joins every pair."
 universal-joins-every-pair : (direction : Direction) (hardblank : SubCharacter) (l r : ℕ) → joins (record { layout = Smushing Universal; direction = direction; hardblank = hardblank }) l r ≡ true
