@@ -185,7 +185,7 @@ pub fn draw_stacked(
     ensures lines { λ r. ⌜ LinesOut (drawLines (length (now (scratch .entry))) (now (font .entry)) (now (control .entry)) (now (upper .entry)) (now (lower .entry))) (length (now (out .entry))) r (now (out .exit)) ⌝ }
     ensures scratch { λ r. ⌜ now (scratch .exit) ≡ zeros (length (now (scratch .entry))) ⌝ }
 {
-    twolines::draw_stacked(font, control, upper, lower, scratch, out)
+    stackdrawing::draw_stacked(font, control, upper, lower, scratch, out)
 }
 
 // Draws a text by a font and a control file in lines at most `limit` columns wide, 1 to 1,000, each with the most words that fit; a first word that does not fit

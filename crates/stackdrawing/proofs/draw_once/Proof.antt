@@ -1,9 +1,9 @@
--- `twolines::draw_once` meets its contract.
+-- `stackdrawing::draw_once` meets its contract.
 -- Assumes nothing.
 
 use borrow.Author.Needs.{needs}
-use Rattle.twolines.proofs.draw_once.Statement.{statement}
-use Rattle.twolines.proofs.draw_once.Tie as tie
+use Rattle.stackdrawing.proofs.draw_once.Statement.{statement}
+use Rattle.stackdrawing.proofs.draw_once.Tie as tie
 
 slice-aggregate-read-files : tie.Need-slice-aggregate-read-files
 slice-aggregate-read-files c = search needs

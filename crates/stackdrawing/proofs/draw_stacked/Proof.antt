@@ -1,9 +1,9 @@
--- `twolines::draw_stacked` meets its contract.
+-- `stackdrawing::draw_stacked` meets its contract.
 -- Assumes nothing.
 use Rattle.ground.proofs.Areas.{wiped}
 use borrow.Author.Needs.{needs}
-use Rattle.twolines.proofs.draw_stacked.Statement.{statement}
-use Rattle.twolines.proofs.draw_stacked.Tie as tie
+use Rattle.stackdrawing.proofs.draw_stacked.Statement.{statement}
+use Rattle.stackdrawing.proofs.draw_stacked.Tie as tie
 
 draw-tested-requires : tie.Need-draw-tested-requires
 draw-tested-requires c κs = search needs

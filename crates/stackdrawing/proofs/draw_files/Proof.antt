@@ -1,10 +1,10 @@
--- `twolines::draw_files` meets its contract.
+-- `stackdrawing::draw_files` meets its contract.
 -- Assumes nothing.
 use borrow.Author.Needs.{needs}
 use Rattle.bothfiles.proofs.HeldLaws.{held-as}
 use Rattle.twolines.proofs.LinesLaws.{lines-as, upper-refused}
-use Rattle.twolines.proofs.draw_files.Statement.{statement}
-use Rattle.twolines.proofs.draw_files.Tie as tie
+use Rattle.stackdrawing.proofs.draw_files.Statement.{statement}
+use Rattle.stackdrawing.proofs.draw_files.Tie as tie
 
 enum-known-files : tie.Need-enum-known-files
 enum-known-files c = search needs

@@ -1,10 +1,10 @@
--- `twolines::draw_tested` meets its contract.
+-- `stackdrawing::draw_tested` meets its contract.
 -- Assumes nothing.
 use lib.ListN.{length}
 use Rattle.twolines.proofs.LinesLaws.{lines-as, lines-small, lines-enough}
 use borrow.Author.Needs.{needs}
-use Rattle.twolines.proofs.draw_tested.Statement.{statement}
-use Rattle.twolines.proofs.draw_tested.Tie as tie
+use Rattle.stackdrawing.proofs.draw_tested.Statement.{statement}
+use Rattle.stackdrawing.proofs.draw_tested.Tie as tie
 
 refuse-requires : tie.Need-refuse-requires
 refuse-requires c κs = search needs
