@@ -9,7 +9,9 @@ use Rattle.subchars.specs.declared.Mode.{Mode}
 use Rattle.join.specs.Join.{Block}
 use Rattle.join.proofs.Likeness.{like-same, like-trans}
 use Rattle.figure.specs.Line.{attached}
-use Rattle.figure.specs.Scratch.{scratchLine, characterAt, RowsIn, HoldsLine}
+use Rattle.showing.specs.Scratch.{scratchLine}
+use Rattle.laying.specs.Laying.{characterAt, RowsIn}
+use Rattle.figure.specs.Drawn.{HoldsLine}
 use Rattle.figure.proofs.Folding.{attached-like}
 use Rattle.ground.specs.Limits.{maxFontLength}
 use Rattle.source.specs.declared.Chosen.{Chosen}

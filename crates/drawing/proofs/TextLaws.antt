@@ -13,7 +13,7 @@ use Rattle.join.specs.Join.{Block}
 use Rattle.join.proofs.Likeness.{like-trans}
 use Rattle.join.specs.Writing.{Like}
 use Rattle.figure.specs.Line.{empty, lineFrom}
-use Rattle.figure.specs.Scratch.{scratchLine}
+use Rattle.showing.specs.Scratch.{scratchLine}
 use Rattle.figure.proofs.Folding.{from-like, grows}
 use Rattle.source.specs.Source.{Choice, found, stoodIn, nothing, Source}
 use Rattle.source.specs.Counting.{isMissing, one, howMany}

@@ -1,5 +1,4 @@
 // Drawing a line of text from a font and a control file that were read once.
-use figure::PutAnswer;
 use flc::ControlAnswer;
 use flc::mapping;
 use ground::limits;
@@ -9,6 +8,7 @@ use header::Given;
 use header::Header;
 use index::latest;
 use reader::FontAnswer;
+use showing::PutAnswer;
 use source::Chosen;
 use source::Counts;
 use source::Origin;
@@ -29,7 +29,7 @@ ghost use Rattle.chars.specs.Codes.{code};
 ghost use Rattle.index.specs.Index.{CharacterRoom};
 ghost use Rattle.index.specs.Latest.{smallCodes};
 ghost use Rattle.join.specs.Writing.{RowAfterRow};
-ghost use Rattle.figure.specs.Scratch.{scratchLine};
+ghost use Rattle.showing.specs.Scratch.{scratchLine};
 ghost use Rattle.flc.specs.Control as flc;
 ghost use Rattle.flc.specs.Passing.{ControlHeld};
 ghost use Rattle.flc.specs.Filling.{CommandRoom};
@@ -253,7 +253,7 @@ fn put_out(
     requires { ⌜ (height ≤ maxHeight) × (minScratch ≤ length (now area)) ⌝ }
     ensures { λ a. ⌜ ((source : Source) (codes : List Code) → Reached mode height maxLineWidth w (now (area .entry)) (lineOf mode height source codes) → (w ≤ maxLineWidth → counts ≡ countsOf source codes) → PutOut (linedText mode height source codes) (length (now (out .entry))) a (now (out .exit))) ⌝ }
 {
-    let answer = figure::put_out(out, area, mode, w, height);
+    let answer = showing::put_out(out, area, mode, w, height);
     with_counts(counts, answer)
 }
 

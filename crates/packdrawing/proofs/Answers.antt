@@ -19,8 +19,8 @@ use Rattle.subchars.specs.declared.Layout.the-variants.{FullWidth, Fitting, Smu
 use Rattle.subchars.specs.declared.Smushing.the-variants.{Universal, Controlled}
 use Rattle.join.specs.Join.{Block}
 use Rattle.join.specs.Shape.{goodKind, goodLayout}
-use Rattle.figure.specs.Line.{outputOf}
-use Rattle.figure.proofs.Showing.{too-wide, no-room, drawn}
+use Rattle.showing.specs.Output.{outputOf}
+use Rattle.showing.proofs.Showing.{too-wide, no-room, drawn}
 use Rattle.records.specs.declared.Head.{Head}
 use Rattle.heads.specs.Pack.{Pack, says, damaged, meaning}
 use Rattle.flc.specs.declared.Command.{Command}

@@ -8,7 +8,7 @@ use lib.ListN.{length, take, drop, getD}
 use Rattle.ground.specs.Limits.{maxFontLength, maxHeight, maxPackLength}
 use Rattle.join.specs.Join.{Block, exactBlock}
 use Rattle.join.specs.Writing.{Like}
-use Rattle.figure.specs.Scratch.{characterAt, RowsIn}
+use Rattle.laying.specs.Laying.{characterAt, RowsIn}
 use Rattle.lines.specs.Lines.{lineEnd, after}
 use Rattle.chars.specs.declared.Entry.{Entry}
 use Rattle.reader.specs.declared.LookedUp.{LookedUp}

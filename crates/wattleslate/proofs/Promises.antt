@@ -66,7 +66,8 @@ use Rattle.stack.proofs.Answers as stack-answers
 use Rattle.stack.proofs.Answers.{BadStack}
 use Rattle.stack.proofs.Bytes.{stacked-byte}
 use Rattle.drawing.specs.declared.DrawAnswer.{DrawAnswer}
-use Rattle.figure.specs.Line.{attached, empty, overlapWith, lineFrom, shown}
+use Rattle.figure.specs.Line.{attached, empty, overlapWith, lineFrom}
+use Rattle.showing.specs.Output.{shown}
 use Rattle.drawing.specs.declared.DrawAnswer.the-variants as draw-is
 use Rattle.figure.proofs.Folding.{first-whole}
 use Rattle.join.specs.Writing.{Like}

@@ -15,9 +15,9 @@ use Rattle.subchars.specs.declared.VerticalLayout.{VerticalLayout}
 use Rattle.join.specs.Join.{exactBlock, leftOf, rightOf, besides, rowsOf}
 use Rattle.join.specs.JoinCall.{joinTold, joinArea}
 use Rattle.stack.specs.StackCall.{stackOf, stackRows, stackTold, stackArea}
-use Rattle.figure.specs.declared.PutAnswer.{PutAnswer}
-use Rattle.figure.specs.declared.PutAnswer.the-variants.{Put, Refused}
-use Rattle.figure.specs.Line.{shown, outputOf, putOnly, outputBytes}
+use Rattle.showing.specs.declared.PutAnswer.{PutAnswer}
+use Rattle.showing.specs.declared.PutAnswer.the-variants.{Put, Refused}
+use Rattle.showing.specs.Output.{shown, outputOf, putOnly, outputBytes}
 use Rattle.font.specs.Font.{FontReading, refuses}
 use Rattle.entries.specs.Filling.{fontReading, zeroEntry, indexOf}
 use Rattle.flc.specs.Control as flc

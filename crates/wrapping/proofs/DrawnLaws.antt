@@ -14,7 +14,7 @@ use Rattle.join.specs.Join.{Block}
 use Rattle.join.specs.Writing.{Like}
 use Rattle.join.proofs.Likeness.{like-same, like-trans}
 use Rattle.figure.specs.Line.{empty}
-use Rattle.figure.specs.Scratch.{scratchLine}
+use Rattle.showing.specs.Scratch.{scratchLine}
 use Rattle.figure.proofs.Turning.{over-le, attached-wide}
 use Rattle.figure.proofs.Folding.{attached-like, first-whole}
 use Rattle.source.specs.Source.{Choice, found, stoodIn, nothing, Source}

@@ -11,8 +11,8 @@ use Rattle.subchars.specs.declared.Mode.{Mode}
 use Rattle.join.specs.Join.{Block}
 use Rattle.join.specs.Writing.{Like}
 use Rattle.join.proofs.Likeness.{like-same}
-use Rattle.figure.specs.Line.{shown}
-use Rattle.figure.specs.Scratch.{scratchLine}
+use Rattle.showing.specs.Output.{shown}
+use Rattle.showing.specs.Scratch.{scratchLine}
 use Rattle.wrapping.specs.declared.Sought.{Sought}
 use Rattle.breaks.specs.Breaking.{spanEnd}
 use Rattle.wrapping.specs.Wrapping.{part, wideIn}

@@ -7,8 +7,8 @@ use native.Mathlib.Omega.{arith}
 use lib.ListN.{length, take, set, length-append}
 use Rattle.ground.proofs.Areas.{map-more}
 use Rattle.join.specs.Join.{Block}
-use Rattle.figure.specs.Line.{shown}
-use Rattle.figure.proofs.Showing.{length-shown}
+use Rattle.showing.specs.Output.{shown}
+use Rattle.showing.proofs.Showing.{length-shown}
 use Rattle.breaks.specs.Words.{wordFrom}
 use Rattle.breaks.specs.Breaking.{Span, span, spanEnd, spansFrom, spansOf}
 use Rattle.wrapping.specs.Wrapping.{part, wideIn, drawings}

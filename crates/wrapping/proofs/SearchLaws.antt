@@ -12,7 +12,7 @@ use borrow.Author.Tests.{eq-eqb, ne-eqb}
 use Rattle.subchars.specs.declared.Mode.{Mode}
 use Rattle.join.specs.Join.{Block}
 use Rattle.join.specs.Writing.{Like}
-use Rattle.figure.specs.Scratch.{scratchLine}
+use Rattle.showing.specs.Scratch.{scratchLine}
 use Rattle.wrapping.specs.declared.Kept.{Kept}
 use Rattle.wrapping.specs.declared.Sought.{Sought}
 use Rattle.breaks.specs.Words.{inWord, wordBehind, endsWord}

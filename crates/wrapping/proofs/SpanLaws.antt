@@ -14,9 +14,9 @@ use Rattle.subchars.specs.declared.Direction.{Direction}
 use Rattle.subchars.specs.declared.Mode.{Mode}
 use Rattle.join.specs.Join.{Block, rowsOf}
 use Rattle.join.specs.Writing.{Like, fromOn}
-use Rattle.figure.specs.Line.{withLF, shown}
-use Rattle.figure.specs.Scratch.{lineStart, scratchLine}
-use Rattle.figure.proofs.Showing.{shown-like}
+use Rattle.showing.specs.Output.{withLF, shown}
+use Rattle.showing.specs.Scratch.{lineStart, scratchLine}
+use Rattle.showing.proofs.Showing.{shown-like}
 use Rattle.drawing.specs.Steps.{Reached}
 use Rattle.breaks.specs.Breaking.{spanEnd}
 use Rattle.wrapping.specs.Wrapping.{part, wideIn}

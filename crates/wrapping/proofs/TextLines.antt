@@ -11,7 +11,7 @@ use lib.Seq.{drop-drop}
 use borrow.Author.Tests.{not-true}
 use Rattle.subchars.specs.declared.Mode.{Mode}
 use Rattle.join.specs.Join.{Block}
-use Rattle.figure.specs.Line.{shown}
+use Rattle.showing.specs.Output.{shown}
 use Rattle.source.specs.Source.{Source}
 use Rattle.flc.specs.declared.Command.{Command}
 use Rattle.breaks.specs.Words.{isBreak, inWord, wordFrom, wordBehind, endsWord}

@@ -9,8 +9,8 @@ use lib.ListN.{length, take}
 use Rattle.subchars.specs.declared.Mode.{Mode}
 use Rattle.join.specs.Join.{Block}
 use Rattle.join.specs.Writing.{Like}
-use Rattle.figure.specs.Line.{shown}
-use Rattle.figure.specs.Scratch.{scratchLine}
+use Rattle.showing.specs.Output.{shown}
+use Rattle.showing.specs.Scratch.{scratchLine}
 use Rattle.source.specs.Source.{Source}
 use Rattle.source.specs.declared.Origin.the-variants.{Font}
 use Rattle.source.specs.Held.{Gives}

@@ -13,7 +13,7 @@ use Rattle.ground.specs.Runs.{run}
 use Rattle.ground.specs.declared.refusals.Refusal.{Refusal}
 use Rattle.subchars.specs.declared.Mode.{Mode}
 use Rattle.join.specs.Join.{Block}
-use Rattle.figure.specs.Line.{shown}
+use Rattle.showing.specs.Output.{shown}
 use Rattle.font.specs.Font as font
 use Rattle.source.specs.declared.Counts.{Counts}
 use Rattle.source.specs.Source.{Choice, found, stoodIn, nothing, Source, fontSource}

@@ -19,8 +19,8 @@ ghost use Rattle.ground.specs.Area.{zeros};
 ghost use Rattle.ground.specs.Limits.{maxText, maxLineWidth, maxHeight, minLines, minScratch};
 ghost use Rattle.join.specs.Join.{Block};
 ghost use Rattle.join.specs.Writing.{Like};
-ghost use Rattle.figure.specs.Line.{shown};
-ghost use Rattle.figure.specs.Scratch.{scratchLine};
+ghost use Rattle.showing.specs.Output.{shown};
+ghost use Rattle.showing.specs.Scratch.{scratchLine};
 ghost use Rattle.flc.specs.Passing.{ControlHeld};
 ghost use Rattle.source.specs.Source.{Choice};
 ghost use Rattle.source.specs.Held.{FontHeld};
@@ -179,8 +179,8 @@ fn put_line(out: &mut [u8], at: usize, area: &[u8], mode: Mode, w: usize, height
 {
     let direction = mode.direction;
     let hardblank = mode.hardblank;
-    let from = figure::line_start(direction, w);
-    figure::show_rows(&mut out[at..], area, from, w, hardblank, height);
+    let from = showing::line_start(direction, w);
+    showing::show_rows(&mut out[at..], area, from, w, hardblank, height);
 }
 
 // Nothing is kept of a line that starts at b.

@@ -4,7 +4,7 @@ use mathlib.Core.Path.{refl, sym, subst}
 use Prim.Native.Nat.{ℕ}
 use borrow.Author.Needs.{needs}
 use Rattle.join.specs.Writing.{Like}
-use Rattle.figure.specs.Scratch.{scratchLine}
+use Rattle.showing.specs.Scratch.{scratchLine}
 use Rattle.wrapping.specs.Wrapping.{part, lineBy}
 use Rattle.wrapping.proofs.SpanLaws.{drawn-again}
 use Rattle.wrapping.proofs.KeepingLaws.{kept-line, held-line}
