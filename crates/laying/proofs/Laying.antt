@@ -41,19 +41,27 @@ others-fit at p q o m stop h (inr v) = omega (arith, v .1)
 pub rows-narrower : (s starts : List ℕ) (m h w : ℕ) → w ≤ m → RowsIn s starts m h → RowsIn s starts w h
 rows-narrower s starts m h w u q = record { many = q .many; within = λ r v. omega (arith, q .within r v) }
 
--- eight stores, one after another
-pub stored-eight : (f : ℕ → ℕ) (at : ℕ) (l : List ℕ) (x : ℕ) → at + 8 ≤ length l → x ≡ f 0 →
-    Stored f at 8 l (set (set (set (set (set (set (set (set l at x) (at + 1) (f 1)) (at + 2) (f 2)) (at + 3) (f 3)) (at + 4) (f 4)) (at + 5) (f 5)) (at + 6) (f 6)) (at + 7) (f 7))
-stored-eight f at l x h e =
-    let z : at + 0 ≡ at = omega arith in
-    let a = subst (λ (i : ℕ). Stored f at 1 l (set l i x)) z (put.stored-next f at 0 x l l (omega arith) e (put.stored-none f at l)) in
-    let b = put.stored-next f at 1 (f 1) l _ (omega (arith, a .size)) refl a in
-    let c = put.stored-next f at 2 (f 2) l _ (omega (arith, b .size)) refl b in
-    let d = put.stored-next f at 3 (f 3) l _ (omega (arith, c .size)) refl c in
-    let g = put.stored-next f at 4 (f 4) l _ (omega (arith, d .size)) refl d in
-    let i = put.stored-next f at 5 (f 5) l _ (omega (arith, g .size)) refl g in
-    let j = put.stored-next f at 6 (f 6) l _ (omega (arith, i .size)) refl i in
-    put.stored-next f at 7 (f 7) l _ (omega (arith, j .size)) refl j
+-- a store more, at place i
+stored-at : (f : ℕ → ℕ) (at k n i x : ℕ) (old l : List ℕ) → i ≡ at + k → n ≡ k + 1 → i < length l → x ≡ f k → Stored f at k old l → Stored f at n old (set l i x)
+stored-at f at k n i x old l e d h g s =
+    subst (λ (j : ℕ). Stored f at j old (set l i x)) (sym d)
+    (subst (λ (j : ℕ). Stored f at (k + 1) old (set l j x)) (sym e) (put.stored-next f at k x old l (omega arith) g s))
+
+-- four stores more
+stored-four : (f : ℕ → ℕ) (at k i : ℕ) (old l : List ℕ) (x y z w : ℕ) → i ≡ at + k → i + 4 ≤ length l → x ≡ f k → y ≡ f (k + 1) → z ≡ f (k + 2) → w ≡ f (k + 3) → Stored f at k old l →
+    Stored f at (k + 4) old (set (set (set (set l i x) (i + 1) y) (i + 2) z) (i + 3) w)
+stored-four f at k i old l x y z w e h p q r t s =
+    let a = stored-at f at k (k + 1) i x old l e refl (omega arith) p s in
+    let b = stored-at f at (k + 1) (k + 2) (i + 1) y old (set l i x) (omega arith) (omega arith) (omega (arith, a .size, s .size)) q a in
+    let c = stored-at f at (k + 2) (k + 3) (i + 2) z old (set (set l i x) (i + 1) y) (omega arith) (omega arith) (omega (arith, b .size, s .size)) r b in
+    stored-at f at (k + 3) (k + 4) (i + 3) w old (set (set (set l i x) (i + 1) y) (i + 2) z) (omega arith) (omega arith) (omega (arith, c .size, s .size)) t c
+
+-- eight stores, four and four
+pub stored-eight : (f : ℕ → ℕ) (at x : ℕ) (old mid new : List ℕ) → at + 8 ≤ length old → x ≡ f 0 → mid ≡ set (set (set (set old at x) (at + 1) (f 1)) (at + 2) (f 2)) (at + 3) (f 3) →
+    new ≡ set (set (set (set mid (at + 4) (f 4)) (at + 4 + 1) (f 5)) (at + 4 + 2) (f 6)) (at + 4 + 3) (f 7) → Stored f at 8 old new
+stored-eight f at x old mid new h e p q =
+    let t : Stored f at 4 old mid = subst (Stored f at 4 old) (sym p) (stored-four f at 0 at old old x (f 1) (f 2) (f 3) (omega arith) (omega arith) e refl refl refl (put.stored-none f at old)) in
+    subst (Stored f at 8 old) (sym q) (stored-four f at 4 (at + 4) old mid (f 4) (f 5) (f 6) (f 7) refl (omega (arith, t .size)) refl refl refl refl t)
 
 -- no row yet
 pub none-stored : (f : ℕ → ℕ → ℕ) (at w : ℕ) (l : List ℕ) → StoredTo f 0 at w l l

@@ -91,6 +91,17 @@ fn copy_rows(area: &mut [u8], at: usize, s: &[u8], starts: &[usize], q: usize, n
     }
 }
 
+// Writes four to out[at..].
+fn put_four(out: &mut [u8], at: usize, a: u8, b: u8, c: u8, d: u8)
+    requires { ⌜ at + 4 ≤ length (now out) ⌝ }
+    ensures { λ _. ⌜ now (out .exit) ≡ set (set (set (set (now (out .entry)) at a) (at + 1) b) (at + 2) c) (at + 3) d ⌝ }
+{
+    out[at] = a;
+    out[at + 1] = b;
+    out[at + 2] = c;
+    out[at + 3] = d;
+}
+
 // Copies s[from..from + 8] to out[at..]. All are read before one is written, so that the compiler moves them as one.
 fn copy_eight(out: &mut [u8], at: usize, s: &[u8], from: usize)
     requires { ⌜ (at + 8 ≤ length (now out)) × (from + 8 ≤ length (now s)) ⌝ }
@@ -104,14 +115,8 @@ fn copy_eight(out: &mut [u8], at: usize, s: &[u8], from: usize)
     let f = s[from + 5];
     let g = s[from + 6];
     let h = s[from + 7];
-    out[at] = a;
-    out[at + 1] = b;
-    out[at + 2] = c;
-    out[at + 3] = d;
-    out[at + 4] = e;
-    out[at + 5] = f;
-    out[at + 6] = g;
-    out[at + 7] = h;
+    put_four(out, at, a, b, c, d);
+    put_four(out, at + 4, e, f, g, h);
 }
 
 // Copies eight places from q on of each of h rows, to column `at` on, up to a row that the list has less than eight of; answers how many rows are copied.

@@ -1,110 +1,76 @@
 -- `laying::copy_eight` meets its contract.
 -- Assumes nothing.
 use native.Mathlib.Omega.{arith}
-use lib.ListN.{getD, length-set}
-use borrow.Author.Needs.{needs}
+use lib.ListN.{getD}
 use Rattle.join.specs.Writing.{fromOn}
 use Rattle.laying.proofs.Laying.{same-at, stored-eight}
 use Rattle.laying.proofs.copy_eight.Statement.{statement}
 use Rattle.laying.proofs.copy_eight.Tie as tie
 
 shared-slice-read-a : tie.Need-shared-slice-read-a
-shared-slice-read-a c = search needs
+shared-slice-read-a c = omega arith
 
 add-b : tie.Need-add-b
-add-b c = search needs
+add-b c = omega arith
 
 shared-slice-read-b : tie.Need-shared-slice-read-b
-shared-slice-read-b c = search needs
+shared-slice-read-b c = omega arith
 
 add-c : tie.Need-add-c
-add-c c = search needs
+add-c c = omega arith
 
 shared-slice-read-c : tie.Need-shared-slice-read-c
-shared-slice-read-c c = search needs
+shared-slice-read-c c = omega arith
 
 add-d : tie.Need-add-d
-add-d c = search needs
+add-d c = omega arith
 
 shared-slice-read-d : tie.Need-shared-slice-read-d
-shared-slice-read-d c = search needs
+shared-slice-read-d c = omega arith
 
 add-e : tie.Need-add-e
-add-e c = search needs
+add-e c = omega arith
 
 shared-slice-read-e : tie.Need-shared-slice-read-e
-shared-slice-read-e c = search needs
+shared-slice-read-e c = omega arith
 
 add-f : tie.Need-add-f
-add-f c = search needs
+add-f c = omega arith
 
 shared-slice-read-f : tie.Need-shared-slice-read-f
-shared-slice-read-f c = search needs
+shared-slice-read-f c = omega arith
 
 add-g : tie.Need-add-g
-add-g c = search needs
+add-g c = omega arith
 
 shared-slice-read-g : tie.Need-shared-slice-read-g
-shared-slice-read-g c = search needs
+shared-slice-read-g c = omega arith
 
 add-h : tie.Need-add-h
-add-h c = search needs
+add-h c = omega arith
 
 shared-slice-read-h : tie.Need-shared-slice-read-h
-shared-slice-read-h c = search needs
+shared-slice-read-h c = omega arith
 
-slice-write-out : tie.Need-slice-write-out
-slice-write-out c = search needs
+put-four-requires : tie.Need-put-four-requires
+put-four-requires c κs = omega arith
 
-add-out : tie.Need-add-out
-add-out c = search needs
+add-put-four : tie.Need-add-put-four
+add-put-four c = omega arith
 
-slice-write-out-2 : tie.Need-slice-write-out-2
-slice-write-out-2 c = simp length-set (omega arith)
-
-add-out-2 : tie.Need-add-out-2
-add-out-2 c = search needs
-
-slice-write-out-3 : tie.Need-slice-write-out-3
-slice-write-out-3 c = simp length-set (omega arith)
-
-add-out-3 : tie.Need-add-out-3
-add-out-3 c = search needs
-
-slice-write-out-4 : tie.Need-slice-write-out-4
-slice-write-out-4 c = simp length-set (omega arith)
-
-add-out-4 : tie.Need-add-out-4
-add-out-4 c = search needs
-
-slice-write-out-5 : tie.Need-slice-write-out-5
-slice-write-out-5 c = simp length-set (omega arith)
-
-add-out-5 : tie.Need-add-out-5
-add-out-5 c = search needs
-
-slice-write-out-6 : tie.Need-slice-write-out-6
-slice-write-out-6 c = simp length-set (omega arith)
-
-add-out-6 : tie.Need-add-out-6
-add-out-6 c = search needs
-
-slice-write-out-7 : tie.Need-slice-write-out-7
-slice-write-out-7 c = simp length-set (omega arith)
-
-add-out-7 : tie.Need-add-out-7
-add-out-7 c = search needs
-
-slice-write-out-8 : tie.Need-slice-write-out-8
-slice-write-out-8 c = simp length-set (omega arith)
+put-four-requires-2 : tie.Need-put-four-requires-2
+put-four-requires-2 c κs = omega arith
 
 same-length : tie.Need-same-length
-same-length c = simp length-set
+same-length c = omega arith
 
 returns : tie.Need-returns
 returns c =
-    let a = c .before .before .before .before .before .before .before .before .args in
-    stored-eight (fromOn (a .s .now) (a .from)) (a .at) (a .out .now) (getD (a .s .now) (a .from) 0) (omega arith) (same-at (a .s .now) (omega arith))
+    let u = c .before .before in
+    let t = u .before .before .before .before in
+    let s = t .before .before .before .before .before .before .before .before .before .before .before .before in
+    let a = s .args in
+    stored-eight (fromOn (a .s .now) (a .from)) (a .at) (getD (a .s .now) (a .from) 0) (a .out .now) (t .put-four .last .0) (u .put-four2 .last .0) (s .pre .0) (same-at (a .s .now) (omega arith)) (t .put-four .ensures) (u .put-four2 .ensures)
 
 pub copy-eight-spec : {M : Type 1} → statement M
 copy-eight-spec =
@@ -125,20 +91,8 @@ copy-eight-spec =
     shared-slice-read-g
     add-h
     shared-slice-read-h
-    slice-write-out
-    add-out
-    slice-write-out-2
-    add-out-2
-    slice-write-out-3
-    add-out-3
-    slice-write-out-4
-    add-out-4
-    slice-write-out-5
-    add-out-5
-    slice-write-out-6
-    add-out-6
-    slice-write-out-7
-    add-out-7
-    slice-write-out-8
+    put-four-requires
+    add-put-four
+    put-four-requires-2
     same-length
     returns)
