@@ -13,7 +13,7 @@ use borrow.Author.Tests.{ltb-false}
 use Rattle.ground.specs.Limits.{maxLineWidth, maxText}
 use Rattle.ground.specs.Refusals.{refusal, lineTooWide, areaTooSmall}
 use Rattle.ground.specs.declared.refusals.Refusal.{Refusal}
-use Rattle.join.specs.Join.{Block}
+use Rattle.blocks.specs.Block.{Block}
 use Rattle.showing.specs.Output.{outputOf}
 use Rattle.drawing.specs.declared.Files.{Files}
 use Rattle.drawing.specs.declared.Files.the-variants as files

@@ -17,8 +17,8 @@ use Rattle.ground.specs.Refusals.{refusal, tooManyCharacters, areaTooSmall, con
 use Rattle.ground.specs.declared.refusals.Refusal.{Refusal}
 use Rattle.ground.proofs.Areas.{padded-at}
 use Rattle.subchars.specs.Pair.{blanked}
-use Rattle.join.specs.Join.{Block}
-use Rattle.join.proofs.Rows.{row-room}
+use Rattle.blocks.specs.Block.{Block}
+use Rattle.blocks.proofs.Rows.{row-room}
 use Rattle.showing.specs.Output.{shown, outputOf, outputBytes, putOnly}
 use Rattle.showing.proofs.Showing.{too-wide, no-room, drawn, shown-byte, shown-lf, length-shown}
 use Rattle.header.specs.declared.Header.{Header}

@@ -6,8 +6,8 @@ use Prim.Native.Nat.{ℕ, _≤_}
 use mathlib.Core.List.{List}
 use native.Mathlib.Omega.{arith}
 use Rattle.subchars.specs.declared.Mode.{Mode}
-use Rattle.join.specs.Join.{Block}
-use Rattle.join.proofs.Likeness.{like-same, like-trans}
+use Rattle.blocks.specs.Block.{Block}
+use Rattle.blocks.proofs.Likeness.{like-same, like-trans}
 use Rattle.figure.specs.Line.{attached}
 use Rattle.showing.specs.Scratch.{scratchLine}
 use Rattle.laying.specs.Laying.{characterAt, RowsIn}

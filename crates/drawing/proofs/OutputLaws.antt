@@ -15,7 +15,7 @@ use Rattle.ground.specs.Refusals.{refusal, textTooLong, lineTooWide}
 use Rattle.ground.specs.declared.refusals.Refusal.{Refusal}
 use Rattle.subchars.specs.declared.Code.{Code}
 use Rattle.subchars.specs.declared.Mode.{Mode}
-use Rattle.join.specs.Join.{Block}
+use Rattle.blocks.specs.Block.{Block}
 use Rattle.showing.specs.Output.{outputOf, outputBytes}
 use Rattle.showing.specs.Scratch.{scratchLine}
 use Rattle.showing.proofs.Showing.{too-wide, no-bytes, output-like, bytes-like}

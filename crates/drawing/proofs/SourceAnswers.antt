@@ -11,7 +11,7 @@ use Rattle.ground.specs.Limits.{maxLineWidth, maxText}
 use Rattle.ground.specs.Refusals.{refusal, areaTooSmall, textTooLong, lineTooWide}
 use Rattle.ground.specs.declared.refusals.Refusal.{Refusal}
 use Rattle.subchars.specs.declared.Mode.{Mode}
-use Rattle.join.specs.Join.{Block}
+use Rattle.blocks.specs.Block.{Block}
 use Rattle.showing.specs.Output.{outputOf}
 use Rattle.showing.proofs.Showing.{too-wide, no-room, drawn}
 use Rattle.flc.specs.declared.Command.{Command}

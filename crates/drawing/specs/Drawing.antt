@@ -17,7 +17,7 @@ use Rattle.subchars.specs.declared.Direction.{Direction}
 use Rattle.subchars.specs.declared.Direction.the-variants.{LeftToRight}
 use Rattle.subchars.specs.declared.Mode.{Mode}
 use Rattle.subchars.specs.Layouts.{printDirection}
-use Rattle.join.specs.Join.{Block}
+use Rattle.blocks.specs.Block.{Block}
 use Rattle.showing.specs.declared.PutAnswer.{PutAnswer}
 use Rattle.showing.specs.declared.PutAnswer.the-variants as put
 use Rattle.figure.specs.Line.{empty, lineFrom, overlapsFrom}

@@ -28,7 +28,7 @@ ghost use Rattle.subchars.specs.declared.Code.{Code};
 ghost use Rattle.chars.specs.Codes.{code};
 ghost use Rattle.index.specs.Index.{CharacterRoom};
 ghost use Rattle.index.specs.Latest.{smallCodes};
-ghost use Rattle.join.specs.Writing.{RowAfterRow};
+ghost use Rattle.blocks.specs.Writing.{RowAfterRow};
 ghost use Rattle.showing.specs.Scratch.{scratchLine};
 ghost use Rattle.flc.specs.Control as flc;
 ghost use Rattle.flc.specs.Passing.{ControlHeld};
@@ -187,7 +187,7 @@ pub fn join_text<'a>(
     requires { ⌜ (limit ≤ maxLineWidth) × (minScratch ≤ length (now area)) ⌝ }
     ensures { λ d. ⌜ ((source : Source) (given : Gives source (now (font .entry)) (now (second .entry)) height origin (now (codes .entry)) (now (starts .entry)) (now (widths .entry)) (now (places .entry))) (control : List ℕ) (held : ControlHeld control commands (now (stages .entry)) (now (firsts .entry)) (now (lasts .entry)) (now (news .entry))) → TextDrawn mode height limit source (textCodes (held .commands) (held .count) (now (text .entry))) d (now (area .exit))) ⌝ }
 {
-    let rows = join::row_starts(limits::MAX_LINE_WIDTH, height);
+    let rows = blocks::row_starts(limits::MAX_LINE_WIDTH, height);
     let mut found = [0usize; limits::MAX_HEIGHT];
     let mut n: usize = 0;
     let mut missing: usize = 0;

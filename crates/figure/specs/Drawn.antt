@@ -6,7 +6,7 @@ use mathlib.Core.List.{List}
 use Rattle.subchars.specs.declared.Direction.{Direction}
 use Rattle.subchars.specs.declared.Direction.the-variants.{LeftToRight, RightToLeft}
 use Rattle.lanes.specs.Blocks.{Agree}
-use Rattle.join.specs.Join.{Block}
+use Rattle.blocks.specs.Block.{Block}
 use Rattle.showing.specs.Scratch.{scratchLine}
 
 -- Which of two stands on the left, the line's or the FIGcharacter's.

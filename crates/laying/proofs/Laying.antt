@@ -16,8 +16,8 @@ use Rattle.subchars.specs.declared.Direction.the-variants.{LeftToRight, RightTo
 use Rattle.subchars.specs.declared.Mode.{Mode}
 use Rattle.subchars.specs.Pair.{blank, byteOf}
 use Rattle.subchars.proofs.Joints.{blank-left, blank-right}
-use Rattle.join.specs.Writing.{fromOn, Stored}
-use Rattle.join.proofs.Storing as put
+use Rattle.blocks.specs.Writing.{fromOn, Stored}
+use Rattle.blocks.proofs.Storing as put
 use Rattle.laying.specs.Laying.{RowsIn, metBy, met, StoredRows, StoredTo, Parted, Laid, LaidRows}
 
 pub same-at : (l : List ℕ) {i j : ℕ} → i ≡ j → getD l i 0 ≡ getD l j 0

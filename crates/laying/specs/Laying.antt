@@ -11,8 +11,9 @@ use Rattle.subchars.specs.declared.Direction.{Direction}
 use Rattle.subchars.specs.declared.Direction.the-variants.{LeftToRight, RightToLeft}
 use Rattle.subchars.specs.declared.Mode.{Mode}
 use Rattle.subchars.specs.Pair.{joins}
-use Rattle.join.specs.Join.{Block, pairByte}
-use Rattle.join.specs.Writing.{fromOn}
+use Rattle.blocks.specs.Block.{Block}
+use Rattle.overlap.specs.Join.{pairByte}
+use Rattle.blocks.specs.Writing.{fromOn}
 
 -- A FIGcharacter m wide whose rows start at the given places.
 abbrev pub characterAt : List ℕ → List ℕ → ℕ → Block

@@ -9,7 +9,7 @@ ghost use mathlib.Core.Bool.{true, cond};
 ghost use Prim.Native.Nat.{ℕ, _+_, _*_, _-_, _<_, _≤_};
 ghost use lib.ListN.{length, getD, set};
 ghost use Rattle.ground.specs.Limits.{maxLineWidth, maxHeight, minScratch};
-ghost use Rattle.join.specs.Writing.{fromOn, Stored};
+ghost use Rattle.blocks.specs.Writing.{fromOn, Stored};
 ghost use Rattle.laying.specs.Laying.{RowsIn, met, canMeet, MeetingRows, StoredRows, StoredTo, Parted, LaidRows};
 
 // What a sub-character of the line becomes where one of a FIGcharacter lies on it.
@@ -86,7 +86,7 @@ fn copy_rows(area: &mut [u8], at: usize, s: &[u8], starts: &[usize], q: usize, n
 {
     let mut r: usize = 0;
     while r < h {
-        join::copy_part(area, r * limits::MAX_LINE_WIDTH + at, s, starts[r] + q, n);
+        blocks::copy_part(area, r * limits::MAX_LINE_WIDTH + at, s, starts[r] + q, n);
         r += 1;
     }
 }

@@ -18,9 +18,9 @@ use Rattle.ground.proofs.Areas.{padded-of}
 use Rattle.subchars.specs.Pair.{blanked}
 use Rattle.subchars.specs.declared.Direction.{Direction}
 use Rattle.subchars.specs.declared.Direction.the-variants.{LeftToRight, RightToLeft}
-use Rattle.join.specs.Join.{Block, rowsOf}
-use Rattle.join.proofs.Rows.{length-rows, rows-cong, rows-at}
-use Rattle.join.specs.Writing.{Like}
+use Rattle.blocks.specs.Block.{Block, rowsOf}
+use Rattle.blocks.proofs.Rows.{length-rows, rows-cong, rows-at}
+use Rattle.blocks.specs.Writing.{Like}
 use Rattle.showing.specs.declared.PutAnswer.{PutAnswer}
 use Rattle.showing.specs.declared.PutAnswer.the-variants.{Put, Refused}
 use Rattle.showing.specs.Output.{withLF, shownAt, shown, outputOf, putOnly, outputBytes}

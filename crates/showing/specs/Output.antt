@@ -11,7 +11,7 @@ use Rattle.subchars.specs.Pair.{blanked}
 use Rattle.lanes.specs.Blocks.{Cells}
 use Rattle.showing.specs.declared.PutAnswer.{PutAnswer}
 use Rattle.showing.specs.declared.PutAnswer.the-variants.{Put, Refused}
-use Rattle.join.specs.Join.{Block, rowsOf}
+use Rattle.blocks.specs.Block.{Block, rowsOf}
 
 -- "The output is each row with hardblanks as blanks, then LF."
 abbrev pub withLF : ℕ → ℕ → (ℕ → ℕ) → ℕ → ℕ

@@ -6,7 +6,7 @@ use lib.ListN.{getD}
 use Rattle.ground.specs.Limits.{maxLineWidth}
 use Rattle.subchars.specs.declared.Direction.{Direction}
 use Rattle.subchars.specs.declared.Direction.the-variants.{LeftToRight, RightToLeft}
-use Rattle.join.specs.Join.{Block}
+use Rattle.blocks.specs.Block.{Block}
 
 -- The column where a line n wide starts.
 abbrev pub lineStart : Direction → ℕ → ℕ

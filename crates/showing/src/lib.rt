@@ -12,8 +12,8 @@ ghost use lib.ListN.{length, take};
 ghost use Rattle.ground.specs.Area.{values, zeros, padded};
 ghost use Rattle.ground.specs.Limits.{maxLineWidth, maxHeight, minScratch};
 ghost use Rattle.ground.specs.Refusals.{refusal};
-ghost use Rattle.join.specs.Join.{rowsOf};
-ghost use Rattle.join.specs.Writing.{fromOn};
+ghost use Rattle.blocks.specs.Block.{rowsOf};
+ghost use Rattle.blocks.specs.Writing.{fromOn};
 ghost use Rattle.showing.specs.Output.{withLF, outputOf, outputBytes};
 ghost use Rattle.showing.specs.Scratch.{lineStart, scratchLine};
 

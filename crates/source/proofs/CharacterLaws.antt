@@ -9,7 +9,7 @@ use lib.IntN.{ℤ, pos}
 use lib.ListN.{getD, length, take}
 use Rattle.ground.specs.Limits.{maxFontLength, maxHeight}
 use Rattle.subchars.specs.declared.Code.{Code}
-use Rattle.join.specs.Writing.{Like}
+use Rattle.blocks.specs.Writing.{Like}
 use Rattle.laying.specs.Laying.{characterAt, RowsIn}
 use Rattle.header.specs.declared.Header.{Header}
 use Rattle.chars.specs.declared.Entry.{Entry}

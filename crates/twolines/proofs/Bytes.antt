@@ -10,7 +10,7 @@ use Rattle.ground.specs.Text.{byte}
 use Rattle.ground.proofs.Areas.{padded-at}
 use Rattle.subchars.specs.Pair.{blank}
 use Rattle.lanes.proofs.Blanking.{nothing-hard}
-use Rattle.join.proofs.Rows.{row-room}
+use Rattle.blocks.proofs.Rows.{row-room}
 use Rattle.showing.proofs.Showing.{shown-byte, shown-lf, length-shown}
 use Rattle.stack.specs.Stack.{Stack}
 use Rattle.stack.specs.StackCall.{StackTold, areaAfter}

@@ -21,8 +21,8 @@ use Rattle.subchars.specs.declared.Mode.{Mode}
 use Rattle.subchars.specs.declared.VerticalLayout.{VerticalLayout}
 use Rattle.subchars.specs.Pair.{blank, blanked}
 use Rattle.lanes.proofs.Blanking.{nothing-hard}
-use Rattle.join.specs.Join.{Block, rowsOf}
-use Rattle.join.proofs.Rows.{rows-cong, row-room}
+use Rattle.blocks.specs.Block.{Block, rowsOf}
+use Rattle.blocks.proofs.Rows.{rows-cong, row-room}
 use Rattle.showing.specs.Output.{shownAt, shown}
 use Rattle.showing.specs.Scratch.{lineStart}
 use Rattle.stack.specs.declared.Placed.{Placed}

@@ -25,7 +25,8 @@ use Rattle.header.specs.Header.{layoutOf}
 use Rattle.subchars.specs.Pair.{legalHardblank, joinedIf, orElse, equalCharacter, underscore, classOf, hierarchy, opposite, oppositePair, bigX, controlled, universal, joint, joins}
 use Rattle.lanes.specs.Overlap.{laneFacing, facing, hasBlank, free, fitting, oneMore, smushing}
 use Rattle.lanes.specs.Joined.{joinedCells}
-use Rattle.join.specs.Join.{exactBlock, overlap, joinedAt, besides, rowsOf}
+use Rattle.blocks.specs.Block.{exactBlock, rowsOf}
+use Rattle.overlap.specs.Join.{overlap, joinedAt, besides}
 use Rattle.join.specs.Shape.{goodBlock, goodShape}
 use Rattle.join.specs.declared.JoinAnswer.the-variants.{Joined}
 use Rattle.join.specs.JoinCall.{joinTells, toldOf, joinTold, joinArea}

@@ -12,7 +12,8 @@ use Rattle.ground.specs.declared.refusals.Refusal.{Refusal}
 use Rattle.ground.proofs.Tests.{clash}
 use Rattle.subchars.specs.declared.Mode.{Mode}
 use Rattle.subchars.specs.declared.VerticalLayout.{VerticalLayout}
-use Rattle.join.specs.Join.{exactBlock, leftOf, rightOf, besides, rowsOf}
+use Rattle.blocks.specs.Block.{exactBlock, leftOf, rightOf, rowsOf}
+use Rattle.overlap.specs.Join.{besides}
 use Rattle.join.specs.JoinCall.{joinTold, joinArea}
 use Rattle.stack.specs.StackCall.{stackOf, stackRows, stackTold, stackArea}
 use Rattle.showing.specs.declared.PutAnswer.{PutAnswer}

@@ -8,9 +8,9 @@ use native.Mathlib.Omega.{arith}
 use lib.ListN.{length, take}
 use lib.Seq.{length-take-le, take-take, take-at}
 use Rattle.subchars.specs.declared.Mode.{Mode}
-use Rattle.join.specs.Join.{Block}
-use Rattle.join.specs.Writing.{Like}
-use Rattle.join.proofs.Likeness.{like-same}
+use Rattle.blocks.specs.Block.{Block}
+use Rattle.blocks.specs.Writing.{Like}
+use Rattle.blocks.proofs.Likeness.{like-same}
 use Rattle.showing.specs.Output.{shown}
 use Rattle.showing.specs.Scratch.{scratchLine}
 use Rattle.wrapping.specs.declared.Sought.{Sought}

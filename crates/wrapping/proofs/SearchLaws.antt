@@ -10,8 +10,8 @@ use lib.Dec.{eqb}
 use lib.ListN.{length}
 use borrow.Author.Tests.{eq-eqb, ne-eqb}
 use Rattle.subchars.specs.declared.Mode.{Mode}
-use Rattle.join.specs.Join.{Block}
-use Rattle.join.specs.Writing.{Like}
+use Rattle.blocks.specs.Block.{Block}
+use Rattle.blocks.specs.Writing.{Like}
 use Rattle.showing.specs.Scratch.{scratchLine}
 use Rattle.wrapping.specs.declared.Kept.{Kept}
 use Rattle.wrapping.specs.declared.Sought.{Sought}

@@ -12,8 +12,8 @@ use Rattle.ground.specs.Limits.{maxLineWidth}
 use Rattle.ground.proofs.Runs.{rest-is}
 use Rattle.subchars.specs.declared.Direction.{Direction}
 use Rattle.subchars.specs.declared.Mode.{Mode}
-use Rattle.join.specs.Join.{Block, rowsOf}
-use Rattle.join.specs.Writing.{Like, fromOn}
+use Rattle.blocks.specs.Block.{Block, rowsOf}
+use Rattle.blocks.specs.Writing.{Like, fromOn}
 use Rattle.showing.specs.Output.{withLF, shown}
 use Rattle.showing.specs.Scratch.{lineStart, scratchLine}
 use Rattle.showing.proofs.Showing.{shown-like}

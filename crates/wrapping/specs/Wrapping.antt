@@ -12,7 +12,7 @@ use Rattle.ground.specs.Refusals.{refusal, areaTooSmall, textTooLong, badShape,
 use Rattle.ground.specs.Runs.{run}
 use Rattle.ground.specs.declared.refusals.Refusal.{Refusal}
 use Rattle.subchars.specs.declared.Mode.{Mode}
-use Rattle.join.specs.Join.{Block}
+use Rattle.blocks.specs.Block.{Block}
 use Rattle.showing.specs.Output.{shown}
 use Rattle.font.specs.Font as font
 use Rattle.source.specs.declared.Counts.{Counts}

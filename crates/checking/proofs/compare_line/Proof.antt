@@ -5,8 +5,8 @@ use Prim.Native.Nat.{ℕ, _+_, _*_}
 use native.Mathlib.Omega.{arith}
 use borrow.Author.Needs.{needs}
 use Rattle.ground.specs.Limits.{maxLineWidth}
-use Rattle.join.specs.Join.{rowsOf}
-use Rattle.join.specs.Writing.{fromOn}
+use Rattle.blocks.specs.Block.{rowsOf}
+use Rattle.blocks.specs.Writing.{fromOn}
 use Rattle.showing.specs.Output.{withLF, shown}
 use Rattle.showing.proofs.Showing.{start-fits}
 use Rattle.checking.specs.Difference.{firstDifference}

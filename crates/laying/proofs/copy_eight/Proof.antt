@@ -2,7 +2,7 @@
 -- Assumes nothing.
 use native.Mathlib.Omega.{arith}
 use lib.ListN.{getD}
-use Rattle.join.specs.Writing.{fromOn}
+use Rattle.blocks.specs.Writing.{fromOn}
 use Rattle.laying.proofs.Laying.{same-at, stored-eight}
 use Rattle.laying.proofs.copy_eight.Statement.{statement}
 use Rattle.laying.proofs.copy_eight.Tie as tie

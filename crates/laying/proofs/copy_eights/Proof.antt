@@ -4,7 +4,7 @@ use mathlib.Core.Path.{refl}
 use Prim.Native.Nat.{ℕ, _+_, _-_, _≤_}
 use native.Mathlib.Omega.{arith}
 use lib.ListN.{length, getD}
-use Rattle.join.specs.Writing.{fromOn}
+use Rattle.blocks.specs.Writing.{fromOn}
 use Rattle.laying.specs.Laying.{StoredTo}
 use Rattle.laying.proofs.Laying.{none-stored, row-stored}
 use Rattle.laying.proofs.copy_eights.Statement.{statement}

@@ -4,8 +4,8 @@ use mathlib.Core.Path.{_≡_, sym, _∙_, ap, subst}
 use Prim.Native.Nat.{ℕ, _≤_, _-_, _+_}
 use native.Mathlib.Omega.{arith}
 use borrow.Author.Needs.{needs}
-use Rattle.join.proofs.Storing.{stored-none, stored-next}
-use Rattle.join.specs.Writing.{fromOn, Stored}
+use Rattle.blocks.proofs.Storing.{stored-none, stored-next}
+use Rattle.blocks.specs.Writing.{fromOn, Stored}
 use Rattle.laying.specs.Laying.{met, canMeet}
 use Rattle.laying.proofs.meet_row.Statement.{statement}
 use Rattle.laying.proofs.meet_row.Tie as tie

@@ -8,8 +8,8 @@ use lib.ListN.{length}
 use borrow.Author.Needs.{needs}
 use Rattle.ground.specs.Limits.{maxLineWidth}
 use Rattle.ground.specs.Refusals.{refusal, lineTooWide, areaTooSmall}
-use Rattle.join.specs.Join.{Block, rowsOf}
-use Rattle.join.specs.Writing.{fromOn}
+use Rattle.blocks.specs.Block.{Block, rowsOf}
+use Rattle.blocks.specs.Writing.{fromOn}
 use Rattle.showing.specs.Output.{withLF}
 use Rattle.showing.specs.Scratch.{scratchLine}
 use Rattle.showing.proofs.Showing.{start-fits, too-wide, no-room, drawn, no-bytes, bytes-of}

@@ -8,7 +8,7 @@ use lib.ListN.{length, take, length-set}
 use borrow.Author.Needs.{needs}
 use Rattle.ground.proofs.Areas.{put-none, put-next}
 use Rattle.ground.specs.Area.{values}
-use Rattle.join.specs.Writing.{fromOn}
+use Rattle.blocks.specs.Writing.{fromOn}
 use Rattle.showing.specs.Output.{withLF}
 use Rattle.showing.proofs.Showing.{cell-shown, end-shown}
 use Rattle.showing.proofs.show_row.Statement.{statement}

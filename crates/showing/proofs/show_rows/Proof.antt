@@ -7,9 +7,9 @@ use native.Mathlib.Omega.{arith}
 use lib.ListN.{length, take}
 use borrow.Author.Needs.{needs}
 use Rattle.ground.specs.Limits.{maxLineWidth}
-use Rattle.join.proofs.Rows.{rows-next, row-room, row-next}
-use Rattle.join.specs.Join.{rowsOf}
-use Rattle.join.specs.Writing.{fromOn}
+use Rattle.blocks.proofs.Rows.{rows-next, row-room, row-next}
+use Rattle.blocks.specs.Block.{rowsOf}
+use Rattle.blocks.specs.Writing.{fromOn}
 use Rattle.lanes.specs.Blocks.{Cells}
 use Rattle.showing.specs.Output.{withLF}
 use Rattle.showing.proofs.show_rows.Statement.{statement}

@@ -3,7 +3,7 @@
 use mathlib.Core.Path.{refl, sym, subst}
 use Prim.Native.Nat.{ℕ}
 use borrow.Author.Needs.{needs}
-use Rattle.join.specs.Writing.{Like}
+use Rattle.blocks.specs.Writing.{Like}
 use Rattle.showing.specs.Scratch.{scratchLine}
 use Rattle.wrapping.specs.Wrapping.{part, lineBy}
 use Rattle.wrapping.proofs.SpanLaws.{drawn-again}
