@@ -16,8 +16,8 @@ use Rattle.subchars.specs.declared.Direction.{Direction}
 use Rattle.subchars.specs.declared.Layout.{Layout}
 use Rattle.subchars.specs.declared.Mode.{Mode}
 use Rattle.join.specs.Shape.{goodLayout}
-use Rattle.figure.specs.declared.PutAnswer.the-variants as put
-use Rattle.figure.specs.Line.{outputOf}
+use Rattle.showing.specs.declared.PutAnswer.the-variants as put
+use Rattle.showing.specs.Output.{outputOf}
 use Rattle.records.specs.declared.Head.{Head}
 use Rattle.records.specs.declared.Place.{Place}
 use Rattle.records.specs.declared.Place.the-variants.{At, Nowhere}

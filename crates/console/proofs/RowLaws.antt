@@ -13,11 +13,11 @@ use borrow.Author.Tests.{ltb-false}
 use Rattle.ground.specs.Limits.{maxLineWidth, maxText}
 use Rattle.ground.specs.Refusals.{refusal, lineTooWide, areaTooSmall}
 use Rattle.ground.specs.declared.refusals.Refusal.{Refusal}
-use Rattle.join.specs.Join.{Block}
-use Rattle.figure.specs.Line.{outputOf}
+use Rattle.blocks.specs.Block.{Block}
+use Rattle.showing.specs.Output.{outputOf}
 use Rattle.bothfiles.specs.declared.Files.{Files}
 use Rattle.bothfiles.specs.declared.Files.the-variants as files
-use Rattle.figure.specs.declared.PutAnswer.the-variants as put
+use Rattle.showing.specs.declared.PutAnswer.the-variants as put
 use Rattle.source.specs.declared.Counts.{Counts}
 use Rattle.drawing.specs.declared.DrawAnswer.{DrawAnswer}
 use Rattle.drawing.specs.declared.DrawAnswer.the-variants.{Drawn, Refused}

@@ -15,16 +15,16 @@ use Rattle.ground.specs.Refusals.{refusal, textTooLong, lineTooWide}
 use Rattle.ground.specs.declared.refusals.Refusal.{Refusal}
 use Rattle.subchars.specs.declared.Code.{Code}
 use Rattle.subchars.specs.declared.Mode.{Mode}
-use Rattle.join.specs.Join.{Block}
-use Rattle.figure.specs.Line.{outputOf, outputBytes}
-use Rattle.figure.specs.Scratch.{scratchLine}
-use Rattle.figure.proofs.Showing.{too-wide, no-bytes, output-like, bytes-like}
+use Rattle.blocks.specs.Block.{Block}
+use Rattle.showing.specs.Output.{outputOf, outputBytes}
+use Rattle.showing.specs.Scratch.{scratchLine}
+use Rattle.showing.proofs.Showing.{too-wide, no-bytes, output-like, bytes-like}
 use Rattle.header.specs.declared.Header.{Header}
 use Rattle.chars.specs.declared.Entry.{Entry}
 use Rattle.font.specs.Font as font
 use Rattle.flc.specs.declared.Command.{Command}
 use Rattle.flc.specs.Control as flc
-use Rattle.figure.specs.declared.PutAnswer.{PutAnswer}
+use Rattle.showing.specs.declared.PutAnswer.{PutAnswer}
 use Rattle.source.specs.declared.Counts.{Counts}
 use Rattle.source.specs.Source.{Source, fontSource}
 use Rattle.source.specs.Counting.{countsOf}

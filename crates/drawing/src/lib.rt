@@ -1,5 +1,4 @@
 // Drawing a line of text from a source of characters, by a control file.
-use figure::PutAnswer;
 use flc::ControlAnswer;
 use flc::mapping;
 use ground::limits;
@@ -7,6 +6,7 @@ use ground::refusals;
 use ground::refusals::Refusal;
 use header::Given;
 use header::Header;
+use showing::PutAnswer;
 use source::Chosen;
 use source::Counts;
 use source::Origin;
@@ -23,8 +23,8 @@ ghost use lib.ListN.{length};
 ghost use Rattle.ground.specs.Limits.{maxLineWidth, maxHeight, minScratch};
 ghost use Rattle.subchars.specs.declared.Code.{Code};
 ghost use Rattle.chars.specs.Codes.{code};
-ghost use Rattle.join.specs.Writing.{RowAfterRow};
-ghost use Rattle.figure.specs.Scratch.{scratchLine};
+ghost use Rattle.blocks.specs.Writing.{RowAfterRow};
+ghost use Rattle.showing.specs.Scratch.{scratchLine};
 ghost use Rattle.flc.specs.Control as flc;
 ghost use Rattle.flc.specs.Passing.{ControlHeld};
 ghost use Rattle.source.specs.Source.{Choice, Source};
@@ -170,7 +170,7 @@ pub fn join_text<'a>(
     requires { ⌜ (limit ≤ maxLineWidth) × (minScratch ≤ length (now area)) ⌝ }
     ensures { λ d. ⌜ ((source : Source) (given : Gives source (now (font .entry)) (now (second .entry)) height origin (now (codes .entry)) (now (starts .entry)) (now (widths .entry)) (now (places .entry))) (control : List ℕ) (held : ControlHeld control commands (now (stages .entry)) (now (firsts .entry)) (now (lasts .entry)) (now (news .entry))) → TextDrawn mode height limit source (textCodes (held .commands) (held .count) (now (text .entry))) d (now (area .exit))) ⌝ }
 {
-    let rows = join::row_starts(limits::MAX_LINE_WIDTH, height);
+    let rows = blocks::row_starts(limits::MAX_LINE_WIDTH, height);
     let mut found = [0usize; limits::MAX_HEIGHT];
     let mut n: usize = 0;
     let mut missing: usize = 0;
@@ -236,7 +236,7 @@ fn put_out(
     requires { ⌜ (height ≤ maxHeight) × (minScratch ≤ length (now area)) ⌝ }
     ensures { λ a. ⌜ ((source : Source) (codes : List Code) → Reached mode height maxLineWidth w (now (area .entry)) (lineOf mode height source codes) → (w ≤ maxLineWidth → counts ≡ countsOf source codes) → PutOut (linedText mode height source codes) (length (now (out .entry))) a (now (out .exit))) ⌝ }
 {
-    let answer = figure::put_out(out, area, mode, w, height);
+    let answer = showing::put_out(out, area, mode, w, height);
     with_counts(counts, answer)
 }
 

@@ -8,10 +8,10 @@ use native.Mathlib.Omega.{arith}
 use lib.ListN.{length, drop, getD, length-append, drop-of-length-le}
 use Rattle.subchars.specs.declared.Code.{Code}
 use Rattle.subchars.specs.declared.Mode.{Mode}
-use Rattle.join.specs.Join.{Block}
-use Rattle.join.specs.Writing.{Like}
+use Rattle.blocks.specs.Block.{Block}
+use Rattle.blocks.specs.Writing.{Like}
 use Rattle.figure.specs.Line.{empty, attached, overlapWith, overlapsFrom}
-use Rattle.figure.specs.Scratch.{scratchLine}
+use Rattle.showing.specs.Scratch.{scratchLine}
 use Rattle.figure.proofs.Turning.{over-le, attached-wide}
 use Rattle.source.specs.declared.Chosen.{Chosen}
 use Rattle.source.specs.declared.Chosen.the-variants as chosen

@@ -68,7 +68,7 @@ fn check_text(
     requires { ⌜ minScratch ≤ length (now area) ⌝ }
     ensures { λ d. ⌜ ((source : Source) → Gives source (now (font .entry)) (now (font .entry)) height origin (now (codes .entry)) (now (starts .entry)) (now (widths .entry)) (now (places .entry)) → (control : List ℕ) (held : ControlHeld control commands (now (stages .entry)) (now (firsts .entry)) (now (lasts .entry)) (now (news .entry))) → CodesDrawn mode height source (textCodes (held .commands) (held .count) (now (text .entry))) (now (overlaps .entry)) d (now (area .exit))) ⌝ }
 {
-    let rows = join::row_starts(limits::MAX_LINE_WIDTH, height);
+    let rows = blocks::row_starts(limits::MAX_LINE_WIDTH, height);
     let limit = limits::MAX_LINE_WIDTH;
     let mut found = [0usize; limits::MAX_HEIGHT];
     let mut tally = checking::none_drawn();

@@ -17,12 +17,13 @@ use Rattle.subchars.specs.declared.Layout.the-variants.{FullWidth, Fitting, Smu
 use Rattle.subchars.specs.declared.Smushing.the-variants.{Universal, Controlled}
 use Rattle.subchars.specs.declared.Mode.{Mode}
 use Rattle.subchars.specs.Hardblank.{legalHardblank}
-use Rattle.join.specs.Join.{Block, exactBlock, leftOf, rightOf, overlap, besides}
+use Rattle.blocks.specs.Block.{Block, exactBlock, leftOf, rightOf}
+use Rattle.overlap.specs.Join.{overlap, besides}
 use Rattle.join.specs.Shape.{goodKind, goodLayout, goodBlock, goodShape}
 use Rattle.join.specs.declared.JoinAnswer.the-variants.{Joined, Refused}
 use Rattle.join.specs.JoinCall.{JoinTold, joinTells, refusing, toldOf, joinTold}
 use Rattle.join.proofs.GoodShape.{block-good, block-bad}
-use Rattle.join.proofs.Demand.{overlap-narrower}
+use Rattle.overlap.proofs.Demand.{overlap-narrower}
 
 -- 17: "height outside 1 to 32, line width over 1,000, character width over 199, rules outside 1 to 63 in controlled mode, a hardblank that 3
 -- refuses, or blocks not exactly height times width long".

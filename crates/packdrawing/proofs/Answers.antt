@@ -17,10 +17,10 @@ use Rattle.subchars.specs.declared.Direction.{Direction}
 use Rattle.subchars.specs.declared.Layout.{Layout}
 use Rattle.subchars.specs.declared.Layout.the-variants.{FullWidth, Fitting, Smushing}
 use Rattle.subchars.specs.declared.Smushing.the-variants.{Universal, Controlled}
-use Rattle.join.specs.Join.{Block}
+use Rattle.blocks.specs.Block.{Block}
 use Rattle.join.specs.Shape.{goodKind, goodLayout}
-use Rattle.figure.specs.Line.{outputOf}
-use Rattle.figure.proofs.Showing.{too-wide, no-room, drawn}
+use Rattle.showing.specs.Output.{outputOf}
+use Rattle.showing.proofs.Showing.{too-wide, no-room, drawn}
 use Rattle.records.specs.declared.Head.{Head}
 use Rattle.heads.specs.Pack.{Pack, says, damaged, meaning}
 use Rattle.flc.specs.declared.Command.{Command}

@@ -17,13 +17,14 @@ use Rattle.subchars.specs.declared.Mode.{Mode}
 use Rattle.subchars.specs.declared.Smushing.the-variants.{Universal, Controlled}
 use Rattle.subchars.specs.declared.Layout.the-variants.{FullWidth, Fitting, Smushing}
 use Rattle.subchars.specs.Layouts.{oldLayout, smushingBy, has, fullLayout}
-use Rattle.join.specs.Join.{Block, exactBlock}
+use Rattle.blocks.specs.Block.{Block, exactBlock}
 use Rattle.join.specs.Shape.{goodKind, goodLayout}
-use Rattle.join.specs.Writing.{Like}
-use Rattle.join.proofs.Likeness.{like-same}
-use Rattle.figure.specs.Line.{empty, lineFrom, outputOf, outputBytes}
+use Rattle.blocks.specs.Writing.{Like}
+use Rattle.blocks.proofs.Likeness.{like-same}
+use Rattle.figure.specs.Line.{empty, lineFrom}
+use Rattle.showing.specs.Output.{outputOf, outputBytes}
 use Rattle.figure.proofs.Folding.{attached-like}
-use Rattle.figure.proofs.Showing.{output-like, bytes-like}
+use Rattle.showing.proofs.Showing.{output-like, bytes-like}
 use Rattle.header.specs.declared.Given.{Given}
 use Rattle.header.specs.declared.Given.the-variants.{Absent, Of}
 use Rattle.header.specs.declared.Header.{Header}

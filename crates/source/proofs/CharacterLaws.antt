@@ -9,8 +9,8 @@ use lib.IntN.{ℤ, pos}
 use lib.ListN.{getD, length, take}
 use Rattle.ground.specs.Limits.{maxFontLength, maxHeight}
 use Rattle.subchars.specs.declared.Code.{Code}
-use Rattle.join.specs.Writing.{Like}
-use Rattle.figure.specs.Scratch.{characterAt, RowsIn}
+use Rattle.blocks.specs.Writing.{Like}
+use Rattle.laying.specs.Laying.{characterAt, RowsIn}
 use Rattle.header.specs.declared.Header.{Header}
 use Rattle.chars.specs.declared.Entry.{Entry}
 use Rattle.chars.specs.Codes.{code, sameCode}

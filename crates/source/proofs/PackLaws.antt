@@ -11,9 +11,9 @@ use lib.ListN.{length, take, drop, getD}
 use lib.Seq.{getD-take, getD-drop}
 use Rattle.ground.specs.Limits.{maxHeight}
 use Rattle.subchars.specs.declared.Code.{Code}
-use Rattle.join.specs.Join.{exactBlock}
-use Rattle.join.proofs.Rows.{row-next}
-use Rattle.figure.specs.Scratch.{characterAt}
+use Rattle.blocks.specs.Block.{exactBlock}
+use Rattle.blocks.proofs.Rows.{row-next}
+use Rattle.laying.specs.Laying.{characterAt}
 use Rattle.records.specs.declared.Head.{Head}
 use Rattle.records.specs.declared.Place.{Place}
 use Rattle.records.specs.declared.Place.the-variants.{At, Nowhere}

@@ -6,7 +6,7 @@ use mathlib.Core.List.{List}
 use lib.IntN.{ℤ, pos}
 use lib.ListN.{getD}
 use Rattle.subchars.specs.declared.Code.{Code}
-use Rattle.join.specs.Join.{Block, exactBlock}
+use Rattle.blocks.specs.Block.{Block, exactBlock}
 use Rattle.lines.specs.Lines.{after}
 use Rattle.chars.specs.declared.Entry.{Entry}
 use Rattle.reader.specs.declared.LookedUp.{LookedUp}

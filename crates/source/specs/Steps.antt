@@ -6,9 +6,9 @@ use mathlib.Core.Bool.{Bool, true, false}
 use mathlib.Core.List.{List}
 use lib.ListN.{length, take, drop, getD}
 use Rattle.ground.specs.Limits.{maxFontLength, maxHeight, maxPackLength}
-use Rattle.join.specs.Join.{Block, exactBlock}
-use Rattle.join.specs.Writing.{Like}
-use Rattle.figure.specs.Scratch.{characterAt, RowsIn}
+use Rattle.blocks.specs.Block.{Block, exactBlock}
+use Rattle.blocks.specs.Writing.{Like}
+use Rattle.laying.specs.Laying.{characterAt, RowsIn}
 use Rattle.lines.specs.Lines.{lineEnd, after}
 use Rattle.chars.specs.declared.Entry.{Entry}
 use Rattle.reader.specs.declared.LookedUp.{LookedUp}

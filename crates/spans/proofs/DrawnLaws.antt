@@ -10,11 +10,11 @@ use lib.ListN.{length, take, drop, getD, length-drop}
 use lib.Seq.{take-suc, getD-drop}
 use borrow.Author.Tests.{ltb-false, not-true}
 use Rattle.subchars.specs.declared.Mode.{Mode}
-use Rattle.join.specs.Join.{Block}
-use Rattle.join.specs.Writing.{Like}
-use Rattle.join.proofs.Likeness.{like-same, like-trans}
+use Rattle.blocks.specs.Block.{Block}
+use Rattle.blocks.specs.Writing.{Like}
+use Rattle.blocks.proofs.Likeness.{like-same, like-trans}
 use Rattle.figure.specs.Line.{empty}
-use Rattle.figure.specs.Scratch.{scratchLine}
+use Rattle.showing.specs.Scratch.{scratchLine}
 use Rattle.figure.proofs.Turning.{over-le, attached-wide}
 use Rattle.figure.proofs.Folding.{attached-like, first-whole}
 use Rattle.source.specs.Source.{Choice, found, stoodIn, nothing, Source}

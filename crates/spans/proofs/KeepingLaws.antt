@@ -8,11 +8,11 @@ use native.Mathlib.Omega.{arith}
 use lib.ListN.{length, take}
 use lib.Seq.{length-take-le, take-take, take-at}
 use Rattle.subchars.specs.declared.Mode.{Mode}
-use Rattle.join.specs.Join.{Block}
-use Rattle.join.specs.Writing.{Like}
-use Rattle.join.proofs.Likeness.{like-same}
-use Rattle.figure.specs.Line.{shown}
-use Rattle.figure.specs.Scratch.{scratchLine}
+use Rattle.blocks.specs.Block.{Block}
+use Rattle.blocks.specs.Writing.{Like}
+use Rattle.blocks.proofs.Likeness.{like-same}
+use Rattle.showing.specs.Output.{shown}
+use Rattle.showing.specs.Scratch.{scratchLine}
 use Rattle.spans.specs.declared.Sought.{Sought}
 use Rattle.breaks.specs.Breaking.{spanEnd}
 use Rattle.spans.specs.Spans.{part, wideIn}

@@ -6,9 +6,9 @@ use Prim.Native.Nat.{ℕ, _+_, _-_, _*_, _≤_, _<_}
 use native.Mathlib.Omega.{arith}
 use lib.ListN.{length, take, set, length-append}
 use Rattle.ground.proofs.Areas.{map-more}
-use Rattle.join.specs.Join.{Block}
-use Rattle.figure.specs.Line.{shown}
-use Rattle.figure.proofs.Showing.{length-shown}
+use Rattle.blocks.specs.Block.{Block}
+use Rattle.showing.specs.Output.{shown}
+use Rattle.showing.proofs.Showing.{length-shown}
 use Rattle.breaks.specs.Words.{wordFrom}
 use Rattle.breaks.specs.Breaking.{Span, span, spanEnd, spansFrom, spansOf}
 use Rattle.spans.specs.Spans.{part, wideIn, drawings}

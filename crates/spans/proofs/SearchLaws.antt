@@ -10,9 +10,9 @@ use lib.Dec.{eqb}
 use lib.ListN.{length}
 use borrow.Author.Tests.{eq-eqb, ne-eqb}
 use Rattle.subchars.specs.declared.Mode.{Mode}
-use Rattle.join.specs.Join.{Block}
-use Rattle.join.specs.Writing.{Like}
-use Rattle.figure.specs.Scratch.{scratchLine}
+use Rattle.blocks.specs.Block.{Block}
+use Rattle.blocks.specs.Writing.{Like}
+use Rattle.showing.specs.Scratch.{scratchLine}
 use Rattle.spans.specs.declared.Kept.{Kept}
 use Rattle.spans.specs.declared.Sought.{Sought}
 use Rattle.breaks.specs.Words.{inWord, wordBehind, endsWord}

@@ -12,11 +12,11 @@ use Rattle.ground.specs.Limits.{maxLineWidth}
 use Rattle.ground.proofs.Runs.{rest-is}
 use Rattle.subchars.specs.declared.Direction.{Direction}
 use Rattle.subchars.specs.declared.Mode.{Mode}
-use Rattle.join.specs.Join.{Block, rowsOf}
-use Rattle.join.specs.Writing.{Like, fromOn}
-use Rattle.figure.specs.Line.{withLF, shown}
-use Rattle.figure.specs.Scratch.{lineStart, scratchLine}
-use Rattle.figure.proofs.Showing.{shown-like}
+use Rattle.blocks.specs.Block.{Block, rowsOf}
+use Rattle.blocks.specs.Writing.{Like, fromOn}
+use Rattle.showing.specs.Output.{withLF, shown}
+use Rattle.showing.specs.Scratch.{lineStart, scratchLine}
+use Rattle.showing.proofs.Showing.{shown-like}
 use Rattle.drawing.specs.Steps.{Reached}
 use Rattle.breaks.specs.Breaking.{spanEnd}
 use Rattle.spans.specs.Spans.{part, wideIn}

@@ -7,10 +7,10 @@ use mathlib.Core.List.{List, _++_, map}
 use lib.IntN.{ℤ}
 use lib.ListN.{length, take}
 use Rattle.subchars.specs.declared.Mode.{Mode}
-use Rattle.join.specs.Join.{Block}
-use Rattle.join.specs.Writing.{Like}
-use Rattle.figure.specs.Line.{shown}
-use Rattle.figure.specs.Scratch.{scratchLine}
+use Rattle.blocks.specs.Block.{Block}
+use Rattle.blocks.specs.Writing.{Like}
+use Rattle.showing.specs.Output.{shown}
+use Rattle.showing.specs.Scratch.{scratchLine}
 use Rattle.source.specs.Source.{Source}
 use Rattle.source.specs.declared.Origin.the-variants.{Font}
 use Rattle.source.specs.Held.{Gives}

@@ -10,10 +10,10 @@ ghost use Prim.Native.Nat.{ℕ, _+_, _*_, _<_, _≤_};
 ghost use lib.Dec.{eqb};
 ghost use lib.ListN.{length, take};
 ghost use Rattle.ground.specs.Limits.{maxText, maxLineWidth, maxHeight, minLines, minScratch};
-ghost use Rattle.join.specs.Join.{Block};
-ghost use Rattle.join.specs.Writing.{Like};
-ghost use Rattle.figure.specs.Line.{shown};
-ghost use Rattle.figure.specs.Scratch.{scratchLine};
+ghost use Rattle.blocks.specs.Block.{Block};
+ghost use Rattle.blocks.specs.Writing.{Like};
+ghost use Rattle.showing.specs.Output.{shown};
+ghost use Rattle.showing.specs.Scratch.{scratchLine};
 ghost use Rattle.source.specs.Source.{Choice};
 ghost use Rattle.source.specs.Steps.{ChosenAs};
 ghost use Rattle.breaks.specs.Breaking.{spansOf};
@@ -161,8 +161,8 @@ fn put_line(out: &mut [u8], at: usize, area: &[u8], mode: Mode, w: usize, height
 {
     let direction = mode.direction;
     let hardblank = mode.hardblank;
-    let from = figure::line_start(direction, w);
-    figure::show_rows(&mut out[at..], area, from, w, hardblank, height);
+    let from = showing::line_start(direction, w);
+    showing::show_rows(&mut out[at..], area, from, w, hardblank, height);
 }
 
 // Nothing is kept of a line that starts at b.
@@ -287,7 +287,7 @@ fn seek_end(
     let limit = drawer.limit;
     let mode = drawer.mode;
     let height = drawer.height;
-    let rows = join::row_starts(limits::MAX_LINE_WIDTH, height);
+    let rows = blocks::row_starts(limits::MAX_LINE_WIDTH, height);
     let mut found = [0usize; limits::MAX_HEIGHT];
     let mut n: usize = 0;
     let mut last = b;

@@ -18,7 +18,7 @@ use Rattle.subchars.specs.declared.VerticalLayout.the-variants.{FullHeight, Fit
 use Rattle.subchars.specs.Hardblank.{legalHardblank}
 use Rattle.vertical.specs.VerticalPair.{goodSet, goodVertical}
 use Rattle.vertical.proofs.GoodSets.{SumOfRules, good-sum, sum-good}
-use Rattle.join.specs.Join.{exactBlock}
+use Rattle.blocks.specs.Block.{exactBlock}
 use Rattle.join.specs.Shape.{goodBlock}
 use Rattle.join.proofs.GoodShape.{block-good, block-bad}
 use Rattle.stack.specs.declared.StackAnswer.the-variants.{Stacked}

@@ -9,8 +9,8 @@ use lib.ListN.{getD}
 use Rattle.ground.specs.Area.{padded}
 use Rattle.ground.proofs.Areas.{padded-at}
 use Rattle.subchars.specs.declared.VerticalLayout.{VerticalLayout}
-use Rattle.join.specs.Join.{Block}
-use Rattle.join.proofs.Rows.{row-room, length-rows, rows-at}
+use Rattle.blocks.specs.Block.{Block}
+use Rattle.blocks.proofs.Rows.{row-room, length-rows, rows-at}
 use Rattle.stack.specs.Stack.{Stack}
 use Rattle.stack.specs.StackCall.{stackOf, stackRows, stackTold, stackArea}
 

@@ -4,7 +4,7 @@ use mathlib.Core.Path.{_≡_}
 use Prim.Native.Nat.{ℕ, _-_, _≤_, _<_}
 use Rattle.subchars.specs.declared.VerticalLayout.{VerticalLayout}
 use Rattle.lanes.proofs.Cells as lanes
-use Rattle.join.specs.Join.{Block}
+use Rattle.blocks.specs.Block.{Block}
 use Rattle.vertical.specs.VerticalPair.{mergedByte}
 use Rattle.stack.specs.Stack.{upright, stackedAt}
 

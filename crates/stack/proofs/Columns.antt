@@ -12,8 +12,8 @@ use Rattle.lanes.specs.declared.View.{View}
 use Rattle.lanes.specs.Blocks.{cellsOf, blankedCells, Inside, Agree}
 use Rattle.lanes.proofs.Fitting.{has-left, has-right}
 use Rattle.lanes.proofs.Narrowing.{Blanks}
-use Rattle.join.specs.Join.{Block}
-use Rattle.join.specs.Writing.{RowAfterRow, Like}
+use Rattle.blocks.specs.Block.{Block}
+use Rattle.blocks.specs.Writing.{RowAfterRow, Like}
 use Rattle.stack.specs.declared.Placed.{Placed}
 use Rattle.stack.specs.Stack.{upright}
 use Rattle.stack.specs.Placing.{placedBlock, PlacedIn}

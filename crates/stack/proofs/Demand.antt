@@ -20,7 +20,7 @@ use Rattle.lanes.specs.Overlap.{hasBlank, furthest, fitting, smushing}
 use Rattle.lanes.proofs.Demand as lanes
 use Rattle.lanes.proofs.Demand.{Free, Furthest, Fits, Smushes, Pairing, Taken, JoinedLanes}
 use Rattle.lanes.proofs.Smushing.{furthest-passes, fitting-free, fitting-largest}
-use Rattle.join.specs.Join.{Block}
+use Rattle.blocks.specs.Block.{Block}
 use Rattle.vertical.specs.VerticalPair.{VerticalLine, setHas, merges, mergedByte, barred, otherRules, EveryVerticalRuleOf}
 use Rattle.vertical.proofs.VerticalRules.{upper-blank, lower-blank, upper-blank-merges, lower-blank-merges, upper-blank-barred, lower-blank-barred, more-rules, others-without-4096, other-rules-merge, barred-merges}
 use Rattle.stack.specs.Stack.{upright, supersmushing, columnsOverlap, wider, stackOverlap, stackedAt, Stack, stacked}

@@ -10,8 +10,8 @@ use Rattle.ground.specs.Area.{values}
 use Rattle.ground.specs.Text.{byte}
 use Rattle.ground.proofs.Areas.{values-add, values-cong}
 use Rattle.lanes.specs.Blocks.{Cells}
-use Rattle.join.specs.Join.{rowsOf}
-use Rattle.join.proofs.Rows.{rows-cong}
+use Rattle.blocks.specs.Block.{rowsOf}
+use Rattle.blocks.proofs.Rows.{rows-cong}
 use Rattle.stack.specs.Placing.{withEnd}
 
 module _ (w : ℕ) (f : Cells) where

@@ -19,7 +19,7 @@ use Rattle.rules.specs.Rules.{joinedIf, orElse, isSome, equalCharacter, undersc
 use Rattle.lanes.specs.Overlap.{laneFacing, facing, hasBlank, fitting, oneMore, smushing}
 use Rattle.lanes.specs.Joined.{joinedCells}
 use Rattle.vertical.specs.VerticalPair.{horizontalLine, twoBars, merge, merges, mergedByte, barred}
-use Rattle.join.specs.Join.{rowsOf}
+use Rattle.blocks.specs.Block.{rowsOf}
 use Rattle.join.specs.Shape.{goodBlock}
 use Rattle.stack.specs.declared.StackAnswer.the-variants.{Stacked}
 use Rattle.stack.specs.Stack.{upright, supersmushing, columnsOverlap, stackOverlap, stackedAt, stacked}

@@ -15,7 +15,7 @@ use Rattle.lanes.specs.Blocks.{Cells}
 use Rattle.lanes.specs.Overlap.{facing, furthest}
 use Rattle.lanes.proofs.Fitting.{facing-none}
 use Rattle.lanes.proofs.Smushing.{facing-at, facing-of}
-use Rattle.join.specs.Writing.{fromOn}
+use Rattle.blocks.specs.Writing.{fromOn}
 use Rattle.stack.specs.declared.Placed.{Placed}
 use Rattle.stack.specs.Stack.{upright}
 use Rattle.stack.specs.Placing.{placedBlock}

@@ -7,7 +7,7 @@ use borrow.Author.Tests.{eq-eqb}
 use Rattle.subchars.specs.Hardblank.{blank}
 use Rattle.lanes.specs.Blocks.{Agree}
 use Rattle.lanes.proofs.Blanking.{other-stays}
-use Rattle.join.specs.Join.{Block}
+use Rattle.blocks.specs.Block.{Block}
 use Rattle.stack.specs.Stack.{upright, wider}
 use Rattle.stack.proofs.Columns.{cell-inside}
 

@@ -12,7 +12,7 @@ use Rattle.subchars.specs.declared.VerticalLayout.{VerticalLayout}
 use Rattle.subchars.specs.Hardblank.{legalHardblank}
 use Rattle.join.specs.Shape.{goodBlock}
 use Rattle.join.proofs.GoodShape.{block-good}
-use Rattle.join.proofs.Rows.{row-room}
+use Rattle.blocks.proofs.Rows.{row-room}
 use Rattle.vertical.specs.VerticalPair.{goodVertical}
 use Rattle.stack.specs.declared.Placed.{Placed}
 use Rattle.stack.specs.Placing.{PlacedIn}

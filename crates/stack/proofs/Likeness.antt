@@ -17,9 +17,9 @@ use Rattle.subchars.specs.declared.VerticalLayout.the-variants.{FullHeight, Fit
 use Rattle.lanes.specs.Blocks.{Cells, Agree}
 use Rattle.lanes.specs.Overlap.{furthest, fitting, smushing}
 use Rattle.lanes.proofs.Agreeing.{furthest-cong, fitting-cong, smushing-cong, joined-cong}
-use Rattle.join.specs.Join.{Block, exactBlock, rowsOf}
-use Rattle.join.specs.Writing.{Like}
-use Rattle.join.proofs.Rows.{rows-cong}
+use Rattle.blocks.specs.Block.{Block, exactBlock, rowsOf}
+use Rattle.blocks.specs.Writing.{Like}
+use Rattle.blocks.proofs.Rows.{rows-cong}
 use Rattle.vertical.specs.VerticalPair.{VerticalLine, setHas, merges, mergedByte, barred, otherRules}
 use Rattle.stack.specs.declared.Placed.{Placed}
 use Rattle.stack.specs.declared.StackAnswer.{StackAnswer}

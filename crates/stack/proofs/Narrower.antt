@@ -11,7 +11,7 @@ use Rattle.subchars.specs.declared.VerticalLayout.the-variants.{FullHeight, Fit
 use Rattle.lanes.specs.Blocks.{Cells}
 use Rattle.lanes.specs.Overlap.{furthest, fitting, smushing}
 use Rattle.lanes.proofs.Narrowing.{Blanks, furthest-narrow, fitting-narrow, smushing-narrow}
-use Rattle.join.specs.Join.{Block}
+use Rattle.blocks.specs.Block.{Block}
 use Rattle.vertical.specs.VerticalPair.{VerticalLine, setHas, merges, barred, otherRules}
 use Rattle.stack.specs.Stack.{upright, supersmushing, columnsOverlap, stackOverlap}
 use Rattle.stack.proofs.Columns.{beyond-narrower}

@@ -13,8 +13,8 @@ use Rattle.ground.specs.Limits.{maxStackHeight}
 use Rattle.ground.specs.Refusals.{areaTooSmall, badShape, stackTooHigh}
 use Rattle.ground.proofs.Areas.{padded-of}
 use Rattle.subchars.specs.declared.VerticalLayout.{VerticalLayout}
-use Rattle.join.specs.Join.{Block, exactBlock, rowsOf}
-use Rattle.join.proofs.Rows.{length-rows}
+use Rattle.blocks.specs.Block.{Block, exactBlock, rowsOf}
+use Rattle.blocks.proofs.Rows.{length-rows}
 use Rattle.stack.specs.declared.StackAnswer.{StackAnswer}
 use Rattle.stack.specs.declared.StackAnswer.the-variants.{Stacked}
 use Rattle.stack.specs.Stack.{wider, stackOverlap, stackedAt, Stack, stacked}

@@ -8,7 +8,7 @@ use lib.ListN.{length, getD}
 use Rattle.ground.specs.Limits.{maxLineWidth, maxStackHeight}
 use Rattle.ground.specs.Text.{byte}
 use Rattle.lanes.specs.Blocks.{Cells}
-use Rattle.join.specs.Join.{Block}
+use Rattle.blocks.specs.Block.{Block}
 use Rattle.stack.specs.declared.Placed.{Placed}
 
 -- The block that lies in a list: row r, column c at r * stride + base + c.

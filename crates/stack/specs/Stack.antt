@@ -10,7 +10,7 @@ use Rattle.subchars.specs.Hardblank.{blank, blanked}
 use Rattle.lanes.specs.Blocks.{Cells}
 use Rattle.lanes.specs.Overlap.{furthest, fitting, smushing}
 use Rattle.lanes.specs.Joined.{joinedCells}
-use Rattle.join.specs.Join.{Block}
+use Rattle.blocks.specs.Block.{Block}
 use Rattle.vertical.specs.VerticalPair.{VerticalLine, setHas, merges, mergedByte, barred, otherRules}
 
 -- "Hardblanks are first made blanks, the narrower block is filled with blanks on the right": column c, row r of a block.

@@ -12,7 +12,7 @@ use Rattle.ground.specs.Refusals.{areaTooSmall, badShape, stackTooHigh}
 use Rattle.subchars.specs.declared.VerticalLayout.{VerticalLayout}
 use Rattle.subchars.specs.Hardblank.{legalHardblank}
 use Rattle.vertical.specs.VerticalPair.{goodVertical}
-use Rattle.join.specs.Join.{exactBlock, rowsOf}
+use Rattle.blocks.specs.Block.{exactBlock, rowsOf}
 use Rattle.join.specs.Shape.{goodBlock}
 use Rattle.stack.specs.declared.StackAnswer.{StackAnswer}
 use Rattle.stack.specs.declared.StackAnswer.the-variants.{Stacked, Refused}

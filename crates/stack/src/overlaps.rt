@@ -13,7 +13,7 @@ ghost use Rattle.ground.specs.Count.{every};
 ghost use Rattle.ground.specs.Limits.{maxLineWidth};
 ghost use Rattle.subchars.specs.Hardblank.{blanked};
 ghost use Rattle.lanes.specs.Overlap.{facing, furthest, fitting, smushing};
-ghost use Rattle.join.specs.Writing.{fromOn, RowAfterRow};
+ghost use Rattle.blocks.specs.Writing.{fromOn, RowAfterRow};
 ghost use Rattle.vertical.specs.VerticalPair.{passing};
 ghost use Rattle.stack.specs.Stack.{upright, supersmushing, stackOverlap};
 ghost use Rattle.stack.specs.Placing.{placedBlock, PlacedIn};

@@ -10,7 +10,7 @@ ghost use lib.ListN.{length, take};
 ghost use Rattle.ground.specs.Area.{values};
 ghost use Rattle.ground.specs.Limits.{maxLineWidth};
 ghost use Rattle.ground.specs.Text.{byte};
-ghost use Rattle.join.specs.Join.{rowsOf};
+ghost use Rattle.blocks.specs.Block.{rowsOf};
 ghost use Rattle.stack.specs.Stack.{stackedAt};
 ghost use Rattle.stack.specs.Placing.{placedBlock, PlacedIn, withEnd};
 

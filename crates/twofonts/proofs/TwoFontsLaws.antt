@@ -14,7 +14,7 @@ use Rattle.ground.specs.Refusals.{refusal, areaTooSmall, textTooLong, fontsDiff
 use Rattle.ground.proofs.Tests.{clash, and-both, and-none, and-left-false, and-right-false}
 use Rattle.subchars.specs.declared.Code.{Code}
 use Rattle.subchars.specs.declared.Mode.{Mode}
-use Rattle.join.specs.Join.{Block}
+use Rattle.blocks.specs.Block.{Block}
 use Rattle.figure.specs.Line.{empty, lineFrom}
 use Rattle.header.specs.declared.Header.{Header}
 use Rattle.lines.specs.Lines.{after}

@@ -13,7 +13,7 @@ use Rattle.ground.specs.Limits.{maxFontLength, maxHeight, maxLineWidth, maxStac
 use Rattle.ground.specs.Refusals.{refusal, fontTooLong, areaTooSmall, textTooLong, lineTooWide, stackTooHigh}
 use Rattle.ground.specs.declared.refusals.Refusal.{Refusal}
 use Rattle.ground.proofs.Tests.{or-left, or-right, below-or-not}
-use Rattle.join.specs.Join.{Block}
+use Rattle.blocks.specs.Block.{Block}
 use Rattle.header.specs.declared.Header.{Header}
 use Rattle.header.proofs.ParameterLaws.{High}
 use Rattle.chars.specs.declared.Entry.{Entry}

@@ -9,7 +9,7 @@ use borrow.Author.Tests.{lt-ltb, le-ltb}
 use Rattle.subchars.specs.declared.VerticalLayout.{VerticalLayout}
 use Rattle.subchars.specs.declared.VerticalLayout.the-variants.{FullHeight}
 use Rattle.subchars.specs.Hardblank.{blank, blanked}
-use Rattle.join.specs.Join.{Block}
+use Rattle.blocks.specs.Block.{Block}
 use Rattle.figure.specs.Line.{empty, lineFrom}
 use Rattle.header.specs.declared.Header.{Header}
 use Rattle.chars.specs.declared.Entry.{Entry}

@@ -21,10 +21,10 @@ use Rattle.subchars.specs.declared.Mode.{Mode}
 use Rattle.subchars.specs.declared.VerticalLayout.{VerticalLayout}
 use Rattle.subchars.specs.Hardblank.{blank, blanked}
 use Rattle.lanes.proofs.Blanking.{nothing-hard}
-use Rattle.join.specs.Join.{Block, rowsOf}
-use Rattle.join.proofs.Rows.{rows-cong, row-room}
-use Rattle.figure.specs.Line.{shownAt, shown}
-use Rattle.figure.specs.Scratch.{lineStart}
+use Rattle.blocks.specs.Block.{Block, rowsOf}
+use Rattle.blocks.proofs.Rows.{rows-cong, row-room}
+use Rattle.showing.specs.Output.{shownAt, shown}
+use Rattle.showing.specs.Scratch.{lineStart}
 use Rattle.stack.specs.declared.Placed.{Placed}
 use Rattle.stack.specs.declared.StackAnswer.{StackAnswer}
 use Rattle.stack.specs.declared.StackAnswer.the-variants as stack-is

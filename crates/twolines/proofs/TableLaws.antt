@@ -10,7 +10,7 @@ use lib.ListN.{length}
 use Rattle.ground.specs.Limits.{maxLineWidth, maxText, minStackedScratch}
 use Rattle.ground.specs.Refusals.{refusal, tooManyCharacters, areaTooSmall, controlFileTooLong, tooManyCommands, textTooLong, lineTooWide}
 use Rattle.ground.specs.declared.refusals.Refusal.{Refusal}
-use Rattle.join.specs.Join.{Block}
+use Rattle.blocks.specs.Block.{Block}
 use Rattle.header.specs.declared.Header.{Header}
 use Rattle.chars.specs.declared.Entry.{Entry}
 use Rattle.font.specs.Font as font

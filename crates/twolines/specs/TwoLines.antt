@@ -15,7 +15,7 @@ use Rattle.subchars.specs.Hardblank.{blank}
 use Rattle.header.specs.declared.Given.{Given}
 use Rattle.header.specs.declared.Given.the-variants.{Absent, Of}
 use Rattle.font.specs.Font as font
-use Rattle.figure.specs.Line.{shown}
+use Rattle.showing.specs.Output.{shown}
 use Rattle.stack.specs.declared.StackAnswer.{StackAnswer}
 use Rattle.stack.specs.declared.StackAnswer.the-variants.{Stacked, Refused}
 use Rattle.stack.specs.Stack.{Stack, stacked}

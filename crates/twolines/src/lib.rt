@@ -18,7 +18,7 @@ ghost use mathlib.Core.List.{List};
 ghost use Prim.Native.Nat.{ℕ, _≤_};
 ghost use lib.ListN.{length};
 ghost use Rattle.ground.specs.Limits.{maxLineWidth, maxHeight, maxText, minStackedScratch};
-ghost use Rattle.figure.specs.Scratch.{lineStart};
+ghost use Rattle.showing.specs.Scratch.{lineStart};
 ghost use Rattle.flc.specs.Passing.{ControlHeld};
 ghost use Rattle.subchars.specs.declared.Code.{Code};
 ghost use Rattle.subchars.specs.declared.Mode.{Mode};
@@ -69,7 +69,7 @@ fn line_place(direction: Direction, w: usize, height: usize) -> Placed
     ensures { λ p. ⌜ p ≡ record { base = lineStart direction w; stride = maxLineWidth; width = w; height = height } ⌝ }
 {
     Placed {
-        base: figure::line_start(direction, w),
+        base: showing::line_start(direction, w),
         stride: limits::MAX_LINE_WIDTH,
         width: w,
         height,

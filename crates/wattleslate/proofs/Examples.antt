@@ -27,7 +27,8 @@ use Rattle.rules.specs.Rules.{joinedIf, orElse, equalCharacter, underscore, cla
 use Rattle.pairs.specs.Pair.{controlled, universal, joint, joins}
 use Rattle.lanes.specs.Overlap.{laneFacing, facing, hasBlank, free, fitting, oneMore, smushing}
 use Rattle.lanes.specs.Joined.{joinedCells}
-use Rattle.join.specs.Join.{exactBlock, overlap, joinedAt, besides, rowsOf}
+use Rattle.blocks.specs.Block.{exactBlock, rowsOf}
+use Rattle.overlap.specs.Join.{overlap, joinedAt, besides}
 use Rattle.join.specs.Shape.{goodBlock, goodShape}
 use Rattle.join.specs.declared.JoinAnswer.the-variants.{Joined}
 use Rattle.join.specs.JoinCall.{joinTells, toldOf, joinTold, joinArea}

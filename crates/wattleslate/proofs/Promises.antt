@@ -50,11 +50,12 @@ use Rattle.lanes.specs.Blocks.{Cells}
 use Rattle.lanes.specs.Overlap.{hasBlank, free, facing, furthest}
 use Rattle.lanes.proofs.Smushing as lanes
 use Rattle.lanes.proofs.Smushing.{Fails}
-use Rattle.join.specs.Join.{Block, exactBlock, leftOf, rightOf, overlap, pairByte, besides}
+use Rattle.blocks.specs.Block.{Block, exactBlock, leftOf, rightOf}
+use Rattle.overlap.specs.Join.{overlap, pairByte, besides}
 use Rattle.join.specs.declared.JoinAnswer.{JoinAnswer}
 use Rattle.join.specs.declared.JoinAnswer.the-variants as join-is
 use Rattle.join.specs.JoinCall.{joinTells, joinTold, joinArea}
-use Rattle.join.proofs.Demand as demand
+use Rattle.overlap.proofs.Demand as demand
 use Rattle.join.proofs.Answers as joining
 use Rattle.join.proofs.Bytes.{joined-byte}
 use Rattle.stack.specs.declared.StackAnswer.{StackAnswer}
@@ -69,10 +70,11 @@ use Rattle.stack.proofs.Answers as stack-answers
 use Rattle.stack.proofs.Answers.{BadStack}
 use Rattle.stack.proofs.Bytes.{stacked-byte}
 use Rattle.drawing.specs.declared.DrawAnswer.{DrawAnswer}
-use Rattle.figure.specs.Line.{attached, empty, overlapWith, lineFrom, shown}
+use Rattle.figure.specs.Line.{attached, empty, overlapWith, lineFrom}
+use Rattle.showing.specs.Output.{shown}
 use Rattle.drawing.specs.declared.DrawAnswer.the-variants as draw-is
 use Rattle.figure.proofs.Folding.{first-whole}
-use Rattle.join.specs.Writing.{Like}
+use Rattle.blocks.specs.Writing.{Like}
 use Rattle.lines.specs.Lines.{TextLine, linesFrom, textAt}
 use Rattle.lines.specs.Words.{isBlank, firstWord, afterBlanks}
 use Rattle.lines.specs.Numbers.{codeNumber}

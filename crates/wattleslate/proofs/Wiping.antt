@@ -12,12 +12,13 @@ use Rattle.ground.specs.declared.refusals.Refusal.{Refusal}
 use Rattle.ground.proofs.Tests.{clash}
 use Rattle.subchars.specs.declared.Mode.{Mode}
 use Rattle.subchars.specs.declared.VerticalLayout.{VerticalLayout}
-use Rattle.join.specs.Join.{exactBlock, leftOf, rightOf, besides, rowsOf}
+use Rattle.blocks.specs.Block.{exactBlock, leftOf, rightOf, rowsOf}
+use Rattle.overlap.specs.Join.{besides}
 use Rattle.join.specs.JoinCall.{joinTold, joinArea}
 use Rattle.stack.specs.StackCall.{stackOf, stackRows, stackTold, stackArea}
-use Rattle.figure.specs.declared.PutAnswer.{PutAnswer}
-use Rattle.figure.specs.declared.PutAnswer.the-variants.{Put, Refused}
-use Rattle.figure.specs.Line.{shown, outputOf, putOnly, outputBytes}
+use Rattle.showing.specs.declared.PutAnswer.{PutAnswer}
+use Rattle.showing.specs.declared.PutAnswer.the-variants.{Put, Refused}
+use Rattle.showing.specs.Output.{shown, outputOf, putOnly, outputBytes}
 use Rattle.font.specs.Font.{FontReading, refuses}
 use Rattle.entries.specs.Filling.{fontReading, zeroEntry, indexOf}
 use Rattle.flc.specs.Control as flc

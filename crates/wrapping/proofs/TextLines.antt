@@ -10,8 +10,8 @@ use lib.ListN.{length, drop, getD, take-append-drop}
 use lib.Seq.{drop-drop}
 use borrow.Author.Tests.{not-true}
 use Rattle.subchars.specs.declared.Mode.{Mode}
-use Rattle.join.specs.Join.{Block}
-use Rattle.figure.specs.Line.{shown}
+use Rattle.blocks.specs.Block.{Block}
+use Rattle.showing.specs.Output.{shown}
 use Rattle.source.specs.Source.{Source}
 use Rattle.flc.specs.declared.Command.{Command}
 use Rattle.breaks.specs.Words.{isBreak, inWord, wordFrom, wordBehind, endsWord}

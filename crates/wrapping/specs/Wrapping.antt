@@ -11,7 +11,8 @@ use Rattle.ground.specs.Limits.{maxLineWidth, maxText, minLines, minScratch}
 use Rattle.ground.specs.Refusals.{refusal, areaTooSmall, textTooLong, badShape, characterTooWide}
 use Rattle.ground.specs.declared.refusals.Refusal.{Refusal}
 use Rattle.subchars.specs.declared.Mode.{Mode}
-use Rattle.join.specs.Join.{Block}
+use Rattle.blocks.specs.Block.{Block}
+use Rattle.showing.specs.Output.{shown}
 use Rattle.font.specs.Font as font
 use Rattle.source.specs.declared.Counts.{Counts}
 use Rattle.source.specs.Source.{Source, fontSource}

@@ -6,7 +6,7 @@ use native.Mathlib.Omega.{arith}
 use native.Mathlib.Nat.{zero-mul, mul-le-mul-right}
 use lib.ListN.{length, getD, length-set}
 use borrow.Author.Needs.{needs}
-use Rattle.join.proofs.Rows.{set-next, row-next}
+use Rattle.blocks.proofs.Rows.{set-next, row-next}
 use Rattle.letters.proofs.letter_rows.Statement.{statement}
 use Rattle.letters.proofs.letter_rows.Tie as tie
 

@@ -3,8 +3,8 @@
 use mathlib.Core.Path.{refl, sym, subst}
 use Prim.Native.Nat.{ℕ}
 use borrow.Author.Needs.{needs}
-use Rattle.join.specs.Writing.{Like}
-use Rattle.figure.specs.Scratch.{scratchLine}
+use Rattle.blocks.specs.Writing.{Like}
+use Rattle.showing.specs.Scratch.{scratchLine}
 use Rattle.spans.specs.Spans.{part, lineBy}
 use Rattle.spans.proofs.SpanLaws.{drawn-again}
 use Rattle.spans.proofs.KeepingLaws.{kept-line, held-line}

@@ -4,7 +4,7 @@ use Prim.Native.Nat.{_-_}
 use native.Mathlib.Omega.{arith}
 use lib.ListN.{length}
 use borrow.Author.Needs.{needs}
-use Rattle.figure.proofs.Showing.{start-fits}
+use Rattle.showing.proofs.Showing.{start-fits}
 use Rattle.spans.proofs.SpanLaws.{rest-long, line-put}
 use Rattle.spans.proofs.put_line.Statement.{statement}
 use Rattle.spans.proofs.put_line.Tie as tie

@@ -8,7 +8,7 @@ use native.Mathlib.Omega.{arith}
 use lib.ListN.{length, length-set}
 use borrow.Author.Needs.{needs}
 use Rattle.ground.specs.Limits.{maxText, maxLineWidth, maxHeight}
-use Rattle.join.specs.Join.{Block}
+use Rattle.blocks.specs.Block.{Block}
 use Rattle.source.proofs.CharacterLaws.{given-high}
 use Rattle.spans.specs.Spans.{lineBy, wideIn}
 use Rattle.breaks.specs.Steps.{NoneWider, lastBehind, Opens}

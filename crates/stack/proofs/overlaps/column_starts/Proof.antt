@@ -6,7 +6,7 @@ use native.Mathlib.Omega.{arith}
 use lib.ListN.{length, getD, length-set}
 use borrow.Author.Needs.{needs}
 use Rattle.ground.specs.Limits.{maxLineWidth}
-use Rattle.join.proofs.Rows.{set-next}
+use Rattle.blocks.proofs.Rows.{set-next}
 use Rattle.stack.proofs.overlaps.column_starts.Statement.{statement}
 use Rattle.stack.proofs.overlaps.column_starts.Tie as tie
 

@@ -10,7 +10,7 @@ use Rattle.subchars.specs.declared.VerticalSmushing.{VerticalSmushing}
 use Rattle.subchars.specs.declared.VerticalSmushing.the-variants.{Universal}
 use Rattle.lanes.specs.Overlap.{smushing}
 use Rattle.vertical.specs.VerticalPair.{merges}
-use Rattle.join.specs.Join.{Block}
+use Rattle.blocks.specs.Block.{Block}
 use Rattle.stack.specs.Stack.{upright, columnsOverlap, stackOverlap}
 use Rattle.stack.specs.Placing.{placedBlock}
 use Rattle.stack.proofs.Demand.{ruled, ruled-super, ruled-smushing}

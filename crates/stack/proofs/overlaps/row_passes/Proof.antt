@@ -9,7 +9,7 @@ use borrow.Author.Tests.{not-true, not-false}
 use Rattle.ground.specs.Count.{every}
 use Rattle.ground.proofs.Counting.{every-none, every-next, every-stop}
 use Rattle.subchars.specs.Hardblank.{blanked}
-use Rattle.join.specs.Writing.{fromOn}
+use Rattle.blocks.specs.Writing.{fromOn}
 use Rattle.vertical.specs.VerticalPair.{passing}
 use Rattle.stack.proofs.overlaps.row_passes.Statement.{statement}
 use Rattle.stack.proofs.overlaps.row_passes.Tie as tie

@@ -6,8 +6,8 @@ use native.Mathlib.Omega.{arith}
 use lib.ListN.{length}
 use borrow.Author.Needs.{needs}
 use Rattle.ground.specs.Limits.{maxLineWidth}
-use Rattle.join.specs.Join.{Block}
-use Rattle.join.proofs.GoodShape.{small}
+use Rattle.blocks.specs.Block.{Block}
+use Rattle.blocks.proofs.Rows.{small}
 use Rattle.stack.specs.Stack.{stackOverlap}
 use Rattle.stack.specs.Placing.{placedBlock}
 use Rattle.stack.proofs.Demand.{overlap-smaller}

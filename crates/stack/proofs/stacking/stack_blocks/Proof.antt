@@ -5,7 +5,7 @@ use mathlib.Core.Path.{_≡_, sym, _∙_}
 use lib.ListN.{length}
 use borrow.Author.Needs.{needs}
 use borrow.Author.Tests.{not-true, not-false}
-use Rattle.join.specs.Join.{exactBlock}
+use Rattle.blocks.specs.Block.{exactBlock}
 use Rattle.stack.specs.Stack.{stacked}
 use Rattle.stack.specs.Placing.{placedBlock, PlacedIn}
 use Rattle.stack.specs.StackCall.{goodStack}
