@@ -5,7 +5,7 @@ use Prim.Native.Nat.{_≤_, _-_}
 use native.Mathlib.Omega.{arith}
 use lib.ListN.{length}
 use borrow.Author.Needs.{needs}
-use Rattle.entries.proofs.Counted.{counts}
+use Rattle.io.proofs.Counting.{counts}
 use Rattle.console.proofs.files.read_file.Tie as tie
 use Rattle.console.proofs.files.read_file.Statement.{statement}
 
