@@ -22,7 +22,7 @@ use Rattle.vertical.specs.VerticalPair.{horizontalLine, twoBars, merge, merges,
 use Rattle.blocks.specs.Block.{rowsOf}
 use Rattle.join.specs.Shape.{goodBlock}
 use Rattle.stack.specs.declared.StackAnswer.the-variants.{Stacked}
-use Rattle.stack.specs.Stack.{upright, supersmushing, columnsOverlap, stackOverlap, stackedAt, stacked}
+use Rattle.columns.specs.Stack.{upright, supersmushing, columnsOverlap, stackOverlap, stackedAt, stacked}
 use Rattle.stack.specs.StackCall.{StackTold, stackTells, noStack, goodStack, fitTold, stackTold, stackArea}
 
 -- ------------------------------------------------------------------ what an example is

@@ -14,8 +14,8 @@ use Rattle.join.specs.Shape.{goodBlock}
 use Rattle.join.proofs.GoodShape.{block-good}
 use Rattle.blocks.proofs.Rows.{row-room}
 use Rattle.vertical.specs.VerticalPair.{goodVertical}
-use Rattle.stack.specs.declared.Placed.{Placed}
-use Rattle.stack.specs.Placing.{PlacedIn}
+use Rattle.columns.specs.declared.Placed.{Placed}
+use Rattle.columns.specs.Placing.{PlacedIn}
 use Rattle.stack.specs.StackCall.{goodStack}
 
 -- where a block lies whose rows lie one after another

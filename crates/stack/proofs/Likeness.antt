@@ -21,14 +21,14 @@ use Rattle.blocks.specs.Block.{Block, exactBlock, rowsOf}
 use Rattle.blocks.specs.Writing.{Like}
 use Rattle.blocks.proofs.Rows.{rows-cong}
 use Rattle.vertical.specs.VerticalPair.{VerticalLine, setHas, merges, mergedByte, barred, otherRules}
-use Rattle.stack.specs.declared.Placed.{Placed}
+use Rattle.columns.specs.declared.Placed.{Placed}
 use Rattle.stack.specs.declared.StackAnswer.{StackAnswer}
 use Rattle.stack.specs.declared.StackAnswer.the-variants.{Stacked}
-use Rattle.stack.specs.Stack.{upright, supersmushing, columnsOverlap, wider, stackOverlap, stackedAt, Stack, stacked}
-use Rattle.stack.specs.Placing.{placedBlock, withEnd}
+use Rattle.columns.specs.Stack.{upright, supersmushing, columnsOverlap, wider, stackOverlap, stackedAt, Stack, stacked}
+use Rattle.columns.specs.Placing.{placedBlock, withEnd}
 use Rattle.stack.specs.StackCall.{StackTold, stackTells, noStackIf, fitTold, areaAfter, PutStack}
-use Rattle.stack.proofs.Columns.{upright-like}
-use Rattle.stack.proofs.Demand.{overlap-smaller, ruled}
+use Rattle.columns.proofs.Columns.{upright-like}
+use Rattle.columns.proofs.Demand.{overlap-smaller, ruled}
 
 -- columns that agree overlap alike
 module _ (w n m : ℕ) (a a′ b b′ : Cells) (upper : Agree w n a a′) (lower : Agree w m b b′) where

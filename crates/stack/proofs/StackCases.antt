@@ -17,8 +17,8 @@ use Rattle.blocks.specs.Block.{Block, exactBlock, rowsOf}
 use Rattle.blocks.proofs.Rows.{length-rows}
 use Rattle.stack.specs.declared.StackAnswer.{StackAnswer}
 use Rattle.stack.specs.declared.StackAnswer.the-variants.{Stacked}
-use Rattle.stack.specs.Stack.{wider, stackOverlap, stackedAt, Stack, stacked}
-use Rattle.stack.specs.Placing.{withEnd}
+use Rattle.columns.specs.Stack.{wider, stackOverlap, stackedAt, Stack, stacked}
+use Rattle.columns.specs.Placing.{withEnd}
 use Rattle.stack.specs.StackCall.{StackTold, stackTells, noStack, noStackIf, goodStack, fitTold, areaAfter, stackOf, stackSize, stackRows, stackTold, stackArea, StackGives, PutStack, RefusesStack}
 use Rattle.stack.proofs.Ending.{not-ended}
 

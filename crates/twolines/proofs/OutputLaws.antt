@@ -25,11 +25,11 @@ use Rattle.blocks.specs.Block.{Block, rowsOf}
 use Rattle.blocks.proofs.Rows.{rows-cong, row-room}
 use Rattle.showing.specs.Output.{shownAt, shown}
 use Rattle.showing.specs.Scratch.{lineStart}
-use Rattle.stack.specs.declared.Placed.{Placed}
+use Rattle.columns.specs.declared.Placed.{Placed}
 use Rattle.stack.specs.declared.StackAnswer.{StackAnswer}
 use Rattle.stack.specs.declared.StackAnswer.the-variants as stack-is
-use Rattle.stack.specs.Stack.{Stack, stacked}
-use Rattle.stack.specs.Placing.{placedBlock, PlacedIn, withEnd}
+use Rattle.columns.specs.Stack.{Stack, stacked}
+use Rattle.columns.specs.Placing.{placedBlock, PlacedIn, withEnd}
 use Rattle.stack.specs.StackCall.{StackTold, stackTells, fitTold, areaAfter, PutStack}
 use Rattle.stack.proofs.Likeness.{stacked-like, put-like}
 use Rattle.source.specs.declared.Counts.{Counts}

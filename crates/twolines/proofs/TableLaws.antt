@@ -19,7 +19,7 @@ use Rattle.flc.specs.declared.Command.{Command}
 use Rattle.flc.specs.Control as flc
 use Rattle.flc.proofs.RefusalLaws.{control-refusal}
 use Rattle.stack.specs.declared.StackAnswer.the-variants.{Stacked, Refused}
-use Rattle.stack.specs.Stack.{Stack, stacked}
+use Rattle.columns.specs.Stack.{Stack, stacked}
 use Rattle.stack.specs.StackCall.{StackTold, stackTells}
 use Rattle.drawing.specs.Drawing.{fontLine}
 use Rattle.twolines.specs.TwoLines.{verticalOf, drawLines, linesSize, linesTold}

@@ -18,7 +18,7 @@ use Rattle.font.specs.Font as font
 use Rattle.showing.specs.Output.{shown}
 use Rattle.stack.specs.declared.StackAnswer.{StackAnswer}
 use Rattle.stack.specs.declared.StackAnswer.the-variants.{Stacked, Refused}
-use Rattle.stack.specs.Stack.{Stack, stacked}
+use Rattle.columns.specs.Stack.{Stack, stacked}
 use Rattle.stack.specs.StackCall.{StackTold, stackTells, fitTold, areaAfter}
 use Rattle.source.specs.declared.Counts.{Counts}
 use Rattle.source.specs.Counting.{noCounts}

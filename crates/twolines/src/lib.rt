@@ -1,4 +1,5 @@
 // The lines of two texts, drawn by one font, one above the other.
+use columns::Placed;
 use drawing::DrawnText;
 use ground::limits;
 use ground::refusals;
@@ -7,7 +8,6 @@ use header::Given;
 use header::Header;
 use source::Counts;
 use source::Origin;
-use stack::Placed;
 use stack::StackAnswer;
 use stack::stacking;
 use subchars::Direction;

@@ -61,11 +61,11 @@ use Rattle.join.proofs.Bytes.{joined-byte}
 use Rattle.stack.specs.declared.StackAnswer.{StackAnswer}
 use Rattle.stack.specs.declared.StackAnswer.the-variants as stack-is
 use Rattle.stack.specs.declared.StackAnswer.the-variants.{Stacked}
-use Rattle.stack.specs.Stack.{upright, stackOverlap, Stack, stacked}
+use Rattle.columns.specs.Stack.{upright, stackOverlap, Stack, stacked}
 use Rattle.stack.specs.StackCall.{stackTells, noStack, stackOf, stackTold, stackArea}
-use Rattle.stack.proofs.Demand as stacking
-use Rattle.stack.proofs.Columns as columns
-use Rattle.stack.proofs.Filling as filling
+use Rattle.columns.proofs.Demand as stacking
+use Rattle.columns.proofs.Columns as columns
+use Rattle.columns.proofs.Filling as filling
 use Rattle.stack.proofs.Answers as stack-answers
 use Rattle.stack.proofs.Answers.{BadStack}
 use Rattle.stack.proofs.Bytes.{stacked-byte}

@@ -8,9 +8,9 @@ use borrow.Author.Needs.{needs}
 use Rattle.ground.specs.Limits.{maxLineWidth}
 use Rattle.blocks.specs.Block.{Block}
 use Rattle.blocks.proofs.Rows.{small}
-use Rattle.stack.specs.Stack.{stackOverlap}
-use Rattle.stack.specs.Placing.{placedBlock}
-use Rattle.stack.proofs.Demand.{overlap-smaller}
+use Rattle.columns.specs.Stack.{stackOverlap}
+use Rattle.columns.specs.Placing.{placedBlock}
+use Rattle.columns.proofs.Demand.{overlap-smaller}
 use Rattle.stack.proofs.StackCases.{too-high, no-room, done}
 use Rattle.stack.proofs.stacking.put_stack.Statement.{statement}
 use Rattle.stack.proofs.stacking.put_stack.Tie as tie

@@ -1,4 +1,4 @@
--- `stack::overlaps::overlap_of` meets its contract.
+-- `columns::overlaps::overlap_of` meets its contract.
 -- Assumes nothing.
 use mathlib.Core.Path.{_≡_, refl, _∙_, sym, ap}
 use Prim.Native.Nat.{ℕ, min}
@@ -11,12 +11,12 @@ use Rattle.subchars.specs.declared.VerticalSmushing.the-variants.{Universal}
 use Rattle.lanes.specs.Overlap.{smushing}
 use Rattle.vertical.specs.VerticalPair.{merges}
 use Rattle.blocks.specs.Block.{Block}
-use Rattle.stack.specs.Stack.{upright, columnsOverlap, stackOverlap}
-use Rattle.stack.specs.Placing.{placedBlock}
-use Rattle.stack.proofs.Demand.{ruled, ruled-super, ruled-smushing}
-use Rattle.stack.proofs.Narrower.{overlap-narrow}
-use Rattle.stack.proofs.overlaps.overlap_of.Statement.{statement}
-use Rattle.stack.proofs.overlaps.overlap_of.Tie as tie
+use Rattle.columns.specs.Stack.{upright, columnsOverlap, stackOverlap}
+use Rattle.columns.specs.Placing.{placedBlock}
+use Rattle.columns.proofs.Demand.{ruled, ruled-super, ruled-smushing}
+use Rattle.columns.proofs.Narrower.{overlap-narrow}
+use Rattle.columns.proofs.overlaps.overlap_of.Statement.{statement}
+use Rattle.columns.proofs.overlaps.overlap_of.Tie as tie
 
 abbrev up : tie.Start → Block
 up s = placedBlock (s .args .upper .now) (s .args .u)

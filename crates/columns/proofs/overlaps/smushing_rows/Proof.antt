@@ -1,4 +1,4 @@
--- `stack::overlaps::smushing_rows` meets its contract: the fitting overlap, or one more.
+-- `columns::overlaps::smushing_rows` meets its contract: the fitting overlap, or one more.
 -- Assumes nothing.
 use mathlib.Core.Path.{_∙_, sym}
 use Prim.Native.Nat.{ℕ, min}
@@ -7,10 +7,10 @@ use borrow.Author.Needs.{needs}
 use Rattle.lanes.specs.Blocks.{Cells}
 use Rattle.lanes.proofs.Smushing.{more-at, full-at, not-at}
 use Rattle.vertical.specs.VerticalPair.{passing}
-use Rattle.stack.specs.Stack.{upright}
-use Rattle.stack.specs.Placing.{placedBlock}
-use Rattle.stack.proofs.overlaps.smushing_rows.Statement.{statement}
-use Rattle.stack.proofs.overlaps.smushing_rows.Tie as tie
+use Rattle.columns.specs.Stack.{upright}
+use Rattle.columns.specs.Placing.{placedBlock}
+use Rattle.columns.proofs.overlaps.smushing_rows.Statement.{statement}
+use Rattle.columns.proofs.overlaps.smushing_rows.Tie as tie
 
 abbrev up : tie.Start → Cells
 up s = upright (s .args .hardblank .0) (placedBlock (s .args .upper .now) (s .args .u))

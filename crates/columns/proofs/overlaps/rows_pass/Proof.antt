@@ -1,4 +1,4 @@
--- `stack::overlaps::rows_pass` meets its contract. The invariant: the rows looked at pass.
+-- `columns::overlaps::rows_pass` meets its contract. The invariant: the rows looked at pass.
 -- Assumes nothing.
 use mathlib.Core.Bool.{Bool, true}
 use mathlib.Core.Path.{_≡_, _∙_, sym, ap}
@@ -12,11 +12,11 @@ use Rattle.ground.proofs.Counting.{every-none, every-next, every-stop}
 use Rattle.lanes.specs.Blocks.{Cells}
 use Rattle.lanes.specs.Overlap.{facing}
 use Rattle.vertical.specs.VerticalPair.{passing}
-use Rattle.stack.specs.Stack.{upright}
-use Rattle.stack.specs.Placing.{placedBlock}
-use Rattle.stack.proofs.Facing.{rowFaces, rows-facing, row-read}
-use Rattle.stack.proofs.overlaps.rows_pass.Statement.{statement}
-use Rattle.stack.proofs.overlaps.rows_pass.Tie as tie
+use Rattle.columns.specs.Stack.{upright}
+use Rattle.columns.specs.Placing.{placedBlock}
+use Rattle.columns.proofs.Facing.{rowFaces, rows-facing, row-read}
+use Rattle.columns.proofs.overlaps.rows_pass.Statement.{statement}
+use Rattle.columns.proofs.overlaps.rows_pass.Tie as tie
 
 abbrev Inv-loop : tie.InvT-loop
 Inv-loop test hardblank upper u lower l o w first i₀ i =

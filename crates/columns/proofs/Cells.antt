@@ -6,7 +6,7 @@ use Rattle.subchars.specs.declared.VerticalLayout.{VerticalLayout}
 use Rattle.lanes.proofs.Cells as lanes
 use Rattle.blocks.specs.Block.{Block}
 use Rattle.vertical.specs.VerticalPair.{mergedByte}
-use Rattle.stack.specs.Stack.{upright, stackedAt}
+use Rattle.columns.specs.Stack.{upright, stackedAt}
 
 module _ (layout : VerticalLayout) (hardblank n o : ℕ) (a b : Block) (r c : ℕ) where
   pub upper-cell : r < n - o → stackedAt layout hardblank n o a b r c ≡ upright hardblank a c r

@@ -9,7 +9,7 @@ use Rattle.ground.specs.Limits.{maxLineWidth, maxStackHeight}
 use Rattle.ground.specs.Text.{byte}
 use Rattle.lanes.specs.Blocks.{Cells}
 use Rattle.blocks.specs.Block.{Block}
-use Rattle.stack.specs.declared.Placed.{Placed}
+use Rattle.columns.specs.declared.Placed.{Placed}
 
 -- The block that lies in a list: row r, column c at r * stride + base + c.
 abbrev pub placedBlock : List ℕ → Placed → Block

@@ -1,4 +1,4 @@
--- `stack::overlaps::row_passes` meets its contract. The invariant: the pairs looked at pass.
+-- `columns::overlaps::row_passes` meets its contract. The invariant: the pairs looked at pass.
 -- Assumes nothing.
 use mathlib.Core.Bool.{Bool, true}
 use mathlib.Core.Path.{_≡_, _∙_, sym, ap₂}
@@ -11,8 +11,8 @@ use Rattle.ground.proofs.Counting.{every-none, every-next, every-stop}
 use Rattle.subchars.specs.Hardblank.{blanked}
 use Rattle.blocks.specs.Writing.{fromOn}
 use Rattle.vertical.specs.VerticalPair.{passing}
-use Rattle.stack.proofs.overlaps.row_passes.Statement.{statement}
-use Rattle.stack.proofs.overlaps.row_passes.Tie as tie
+use Rattle.columns.proofs.overlaps.row_passes.Statement.{statement}
+use Rattle.columns.proofs.overlaps.row_passes.Tie as tie
 
 abbrev Inv-loop : tie.InvT-loop
 Inv-loop test hardblank upper a lower b n c₀ c = (c ≤ n) × (every (λ k. passing test (blanked (hardblank .0) (fromOn upper a k)) (blanked (hardblank .0) (fromOn lower b k))) c ≡ true)

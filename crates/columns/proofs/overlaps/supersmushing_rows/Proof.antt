@@ -1,15 +1,15 @@
--- `stack::overlaps::supersmushing_rows` meets its contract.
+-- `columns::overlaps::supersmushing_rows` meets its contract.
 -- Assumes nothing.
 use mathlib.Core.Path.{_∙_, sym}
 use Prim.Native.Nat.{ℕ, min}
 use native.Mathlib.Omega.{arith}
 use borrow.Author.Needs.{needs}
 use Rattle.lanes.specs.Blocks.{Cells}
-use Rattle.stack.specs.Stack.{upright}
-use Rattle.stack.specs.Placing.{placedBlock}
-use Rattle.stack.proofs.Demand.{super-far, super-else}
-use Rattle.stack.proofs.overlaps.supersmushing_rows.Statement.{statement}
-use Rattle.stack.proofs.overlaps.supersmushing_rows.Tie as tie
+use Rattle.columns.specs.Stack.{upright}
+use Rattle.columns.specs.Placing.{placedBlock}
+use Rattle.columns.proofs.Demand.{super-far, super-else}
+use Rattle.columns.proofs.overlaps.supersmushing_rows.Statement.{statement}
+use Rattle.columns.proofs.overlaps.supersmushing_rows.Tie as tie
 
 abbrev up : tie.Start → Cells
 up s = upright (s .args .hardblank .0) (placedBlock (s .args .upper .now) (s .args .u))

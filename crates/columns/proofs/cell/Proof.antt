@@ -1,12 +1,12 @@
--- `stack::cell` meets its contract.
+-- `columns::cell` meets its contract.
 -- Assumes nothing.
 use mathlib.Core.Path.{_∙_, sym}
 use native.Mathlib.Omega.{arith}
 use borrow.Author.Needs.{needs}
-use Rattle.stack.specs.Placing.{placedBlock}
-use Rattle.stack.proofs.Columns.{cell-inside, cell-beyond}
-use Rattle.stack.proofs.cell.Statement.{statement}
-use Rattle.stack.proofs.cell.Tie as tie
+use Rattle.columns.specs.Placing.{placedBlock}
+use Rattle.columns.proofs.Columns.{cell-inside, cell-beyond}
+use Rattle.columns.proofs.cell.Statement.{statement}
+use Rattle.columns.proofs.cell.Tie as tie
 
 mul-t7 : tie.Need-mul-t7
 mul-t7 c = omega (arith, c .before .before .before .before .pre .0 .within (c .before .before .before .before .args .r) (c .before .before .before .before .pre .1))

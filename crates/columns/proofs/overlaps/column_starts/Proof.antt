@@ -1,4 +1,4 @@
--- `stack::overlaps::column_starts` meets its contract. The invariant: the columns passed start one after another.
+-- `columns::overlaps::column_starts` meets its contract. The invariant: the columns passed start one after another.
 -- Assumes nothing.
 use mathlib.Core.Path.{_≡_, refl, _∙_}
 use Prim.Native.Nat.{ℕ, _≤_, _<_, _-_, _*_}
@@ -7,8 +7,8 @@ use lib.ListN.{length, getD, length-set}
 use borrow.Author.Needs.{needs}
 use Rattle.ground.specs.Limits.{maxLineWidth}
 use Rattle.blocks.proofs.Rows.{set-next}
-use Rattle.stack.proofs.overlaps.column_starts.Statement.{statement}
-use Rattle.stack.proofs.overlaps.column_starts.Tie as tie
+use Rattle.columns.proofs.overlaps.column_starts.Statement.{statement}
+use Rattle.columns.proofs.overlaps.column_starts.Tie as tie
 
 abbrev Inv-loop : tie.InvT-loop
 Inv-loop w starts₀ c₀ starts c = (c ≤ w) × (length starts ≡ maxLineWidth) × ((i : ℕ) → i < c → getD starts i 0 ≡ i * 1)

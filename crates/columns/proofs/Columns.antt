@@ -14,9 +14,9 @@ use Rattle.lanes.proofs.Fitting.{has-left, has-right}
 use Rattle.lanes.proofs.Narrowing.{Blanks}
 use Rattle.blocks.specs.Block.{Block}
 use Rattle.blocks.specs.Writing.{RowAfterRow, Like}
-use Rattle.stack.specs.declared.Placed.{Placed}
-use Rattle.stack.specs.Stack.{upright}
-use Rattle.stack.specs.Placing.{placedBlock, PlacedIn}
+use Rattle.columns.specs.declared.Placed.{Placed}
+use Rattle.columns.specs.Stack.{upright}
+use Rattle.columns.specs.Placing.{placedBlock, PlacedIn}
 
 module _ (hardblank : ℕ) (a : Block) (c r : ℕ) where
   -- "Hardblanks are first made blanks",

@@ -23,7 +23,7 @@ use Rattle.lanes.proofs.Smushing.{furthest-passes, fitting-free, fitting-larges
 use Rattle.blocks.specs.Block.{Block}
 use Rattle.vertical.specs.VerticalPair.{VerticalLine, setHas, merges, mergedByte, barred, otherRules, EveryVerticalRuleOf}
 use Rattle.vertical.proofs.VerticalRules.{upper-blank, lower-blank, upper-blank-merges, lower-blank-merges, upper-blank-barred, lower-blank-barred, more-rules, others-without-4096, other-rules-merge, barred-merges}
-use Rattle.stack.specs.Stack.{upright, supersmushing, columnsOverlap, wider, stackOverlap, stackedAt, Stack, stacked}
+use Rattle.columns.specs.Stack.{upright, supersmushing, columnsOverlap, wider, stackOverlap, stackedAt, Stack, stacked}
 
 -- a pair with a blank joins in every layout, and is no other pair to supersmushing
 pub blank-merges : (layout : VerticalLayout) (u l : ℕ) → hasBlank u l ≡ true → merges layout u l ≡ true

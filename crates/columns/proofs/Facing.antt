@@ -16,10 +16,10 @@ use Rattle.lanes.specs.Overlap.{facing, furthest}
 use Rattle.lanes.proofs.Fitting.{facing-none}
 use Rattle.lanes.proofs.Smushing.{facing-at, facing-of}
 use Rattle.blocks.specs.Writing.{fromOn}
-use Rattle.stack.specs.declared.Placed.{Placed}
-use Rattle.stack.specs.Stack.{upright}
-use Rattle.stack.specs.Placing.{placedBlock}
-use Rattle.stack.proofs.Columns.{cell-inside}
+use Rattle.columns.specs.declared.Placed.{Placed}
+use Rattle.columns.specs.Stack.{upright}
+use Rattle.columns.specs.Placing.{placedBlock}
+use Rattle.columns.proofs.Columns.{cell-inside}
 
 module _ (ok : ℕ → ℕ → Bool) (w n : ℕ) (a b : Cells) where
   -- each pair of row i of the lower block passes

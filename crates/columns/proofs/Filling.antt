@@ -8,8 +8,8 @@ use Rattle.subchars.specs.Hardblank.{blank}
 use Rattle.lanes.specs.Blocks.{Agree}
 use Rattle.lanes.proofs.Blanking.{other-stays}
 use Rattle.blocks.specs.Block.{Block}
-use Rattle.stack.specs.Stack.{upright, wider}
-use Rattle.stack.proofs.Columns.{cell-inside}
+use Rattle.columns.specs.Stack.{upright, wider}
+use Rattle.columns.proofs.Columns.{cell-inside}
 
 module _ (hardblank : ℕ) (a : Block) (c r : ℕ) where
   -- "Hardblanks are first made blanks",

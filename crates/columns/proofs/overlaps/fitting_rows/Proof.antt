@@ -1,4 +1,4 @@
--- `stack::overlaps::fitting_rows` meets its contract: the columns of a block are lanes of its slice.
+-- `columns::overlaps::fitting_rows` meets its contract: the columns of a block are lanes of its slice.
 -- Assumes nothing.
 use mathlib.Core.Path.{_∙_, ap, sym, subst}
 use mathlib.Core.List.{List}
@@ -8,12 +8,12 @@ use borrow.Author.Needs.{needs}
 use Rattle.lanes.specs.Blocks.{Cells, cellsOf, blankedCells}
 use Rattle.lanes.specs.Overlap.{fitting}
 use Rattle.lanes.proofs.Agreeing.{fitting-cong}
-use Rattle.stack.specs.declared.Placed.{Placed}
-use Rattle.stack.specs.Stack.{upright}
-use Rattle.stack.specs.Placing.{placedBlock}
-use Rattle.stack.proofs.Columns.{viewOf, columns-inside, columns-seen}
-use Rattle.stack.proofs.overlaps.fitting_rows.Statement.{statement}
-use Rattle.stack.proofs.overlaps.fitting_rows.Tie as tie
+use Rattle.columns.specs.declared.Placed.{Placed}
+use Rattle.columns.specs.Stack.{upright}
+use Rattle.columns.specs.Placing.{placedBlock}
+use Rattle.columns.proofs.Columns.{viewOf, columns-inside, columns-seen}
+use Rattle.columns.proofs.overlaps.fitting_rows.Statement.{statement}
+use Rattle.columns.proofs.overlaps.fitting_rows.Tie as tie
 
 smaller-requires : tie.Need-smaller-requires
 smaller-requires c κs = search needs

@@ -13,9 +13,9 @@ use Rattle.lanes.specs.Overlap.{furthest, fitting, smushing}
 use Rattle.lanes.proofs.Narrowing.{Blanks, furthest-narrow, fitting-narrow, smushing-narrow}
 use Rattle.blocks.specs.Block.{Block}
 use Rattle.vertical.specs.VerticalPair.{VerticalLine, setHas, merges, barred, otherRules}
-use Rattle.stack.specs.Stack.{upright, supersmushing, columnsOverlap, stackOverlap}
-use Rattle.stack.proofs.Columns.{beyond-narrower}
-use Rattle.stack.proofs.Demand.{blank-merges, blank-barred, ruled}
+use Rattle.columns.specs.Stack.{upright, supersmushing, columnsOverlap, stackOverlap}
+use Rattle.columns.proofs.Columns.{beyond-narrower}
+use Rattle.columns.proofs.Demand.{blank-merges, blank-barred, ruled}
 
 module _ (w w′ n m : ℕ) (a b : Cells) (few : w ≤ w′) (blanks : Blanks w w′ a b) where
   smush-narrow : (layout : VerticalLayout) → smushing (merges layout) w′ n m a b ≡ smushing (merges layout) w n m a b

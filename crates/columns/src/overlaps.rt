@@ -15,8 +15,8 @@ ghost use Rattle.subchars.specs.Hardblank.{blanked};
 ghost use Rattle.lanes.specs.Overlap.{facing, furthest, fitting, smushing};
 ghost use Rattle.blocks.specs.Writing.{fromOn, RowAfterRow};
 ghost use Rattle.vertical.specs.VerticalPair.{passing};
-ghost use Rattle.stack.specs.Stack.{upright, supersmushing, stackOverlap};
-ghost use Rattle.stack.specs.Placing.{placedBlock, PlacedIn};
+ghost use Rattle.columns.specs.Stack.{upright, supersmushing, stackOverlap};
+ghost use Rattle.columns.specs.Placing.{placedBlock, PlacedIn};
 
 // Where the first w columns of a block start.
 fn column_starts(w: usize) -> [usize; limits::MAX_LINE_WIDTH]

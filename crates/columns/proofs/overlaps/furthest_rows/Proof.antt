@@ -1,4 +1,4 @@
--- `stack::overlaps::furthest_rows` meets its contract. The invariant: every overlap up to o passes.
+-- `columns::overlaps::furthest_rows` meets its contract. The invariant: every overlap up to o passes.
 -- Assumes nothing.
 use mathlib.Core.Bool.{true}
 use mathlib.Core.Path.{_≡_, _∙_, sym}
@@ -9,11 +9,11 @@ use borrow.Author.Tests.{not-true, not-false}
 use Rattle.lanes.specs.Blocks.{Cells}
 use Rattle.lanes.specs.Overlap.{facing}
 use Rattle.vertical.specs.VerticalPair.{passing}
-use Rattle.stack.specs.Stack.{upright}
-use Rattle.stack.specs.Placing.{placedBlock}
-use Rattle.stack.proofs.Facing.{far-none, far-next, far-is}
-use Rattle.stack.proofs.overlaps.furthest_rows.Statement.{statement}
-use Rattle.stack.proofs.overlaps.furthest_rows.Tie as tie
+use Rattle.columns.specs.Stack.{upright}
+use Rattle.columns.specs.Placing.{placedBlock}
+use Rattle.columns.proofs.Facing.{far-none, far-next, far-is}
+use Rattle.columns.proofs.overlaps.furthest_rows.Statement.{statement}
+use Rattle.columns.proofs.overlaps.furthest_rows.Tie as tie
 
 abbrev Inv-loop : tie.InvT-loop
 Inv-loop test hardblank upper u lower l most o₀ o =
