@@ -64,7 +64,7 @@ pub fn read_files(
     requires { ⌜ CommandRoom maxCommands (now stages) (now firsts) (now lasts) (now news) ⌝ }
     ensures { λ r. ⌜ FilesHeld (now (font .entry)) (now (control .entry)) r (now (codes .exit)) (now (starts .exit)) (now (widths .exit)) (now (places .exit)) (now (stages .exit)) (now (firsts .exit)) (now (lasts .exit)) (now (news .exit)) ⌝ }
 {
-    let f = source::read_font(font, codes, starts, widths, places);
+    let f = fontlists::read_font(font, codes, starts, widths, places);
     let c = flc::read_lists(control, stages, firsts, lasts, news);
     files_of(f, c)
 }

@@ -17,9 +17,9 @@ use Rattle.ground.specs.Limits.{maxFontLength}
 use Rattle.source.specs.declared.Chosen.{Chosen}
 use Rattle.source.specs.declared.Chosen.the-variants as chosen
 use Rattle.source.specs.declared.Picked.{Picked}
-use Rattle.source.specs.declared.two.Which.{Which}
-use Rattle.source.specs.declared.two.Which.the-variants.{First, Second}
-use Rattle.source.specs.TwoFonts.{bytesIn}
+use Rattle.fontlists.specs.declared.two.Which.{Which}
+use Rattle.fontlists.specs.declared.two.Which.the-variants.{First, Second}
+use Rattle.fontlists.specs.TwoFonts.{bytesIn}
 use Rattle.source.specs.Source.{Choice, found, stoodIn, nothing}
 use Rattle.source.specs.Steps.{Shows, ChosenAs, PickedAs}
 use Rattle.drawing.specs.Steps.{withCharacter, Reached}

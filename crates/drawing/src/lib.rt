@@ -1,6 +1,7 @@
 // Drawing a line of text from a source of characters, by a control file.
 use flc::ControlAnswer;
 use flc::mapping;
+use fontlists::two;
 use ground::limits;
 use ground::refusals;
 use ground::refusals::Refusal;
@@ -11,7 +12,6 @@ use source::Chosen;
 use source::Counts;
 use source::Origin;
 use source::Picked;
-use source::two;
 use subchars::Code;
 use subchars::Direction;
 use subchars::Mode;

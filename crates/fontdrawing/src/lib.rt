@@ -28,7 +28,7 @@ fn draw_once(
     let mut starts = [0usize; limits::MAX_CHARACTERS];
     let mut widths = [0usize; limits::MAX_CHARACTERS];
     let mut places = [0usize; latest::SMALL_CODES];
-    match source::read_font(font, &mut codes, &mut starts, &mut widths, &mut places) {
+    match fontlists::read_font(font, &mut codes, &mut starts, &mut widths, &mut places) {
         FontAnswer::Read { header, count } => drawing::draw_mapped(
             out,
             area,

@@ -32,7 +32,8 @@ use Rattle.source.specs.declared.Chosen.{Chosen}
 use Rattle.source.specs.declared.Chosen.the-variants as chosen
 use Rattle.source.specs.Source.{nothing, Source, characterOf, choiceOf, fontSource}
 use Rattle.source.specs.Counting.{StandsIn}
-use Rattle.source.specs.Held.{FontHeld, FontGives, GivesBy, Gives}
+use Rattle.source.specs.Held.{FontGives, GivesBy, Gives}
+use Rattle.fontlists.specs.Held.{FontHeld}
 use Rattle.source.specs.Steps.{RowPlaces, Stands, Shows, ChosenAs, asOwn}
 use Rattle.source.proofs.CountLaws.{with-code-0, without-code-0}
 

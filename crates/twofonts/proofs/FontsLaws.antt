@@ -23,9 +23,11 @@ use Rattle.reader.specs.declared.FontAnswer.{FontAnswer}
 use Rattle.reader.specs.declared.FontAnswer.the-variants as one
 use Rattle.flc.specs.Control as flc
 use Rattle.source.specs.declared.Origin.the-variants.{Two}
-use Rattle.source.specs.TwoFonts.{lookedUpInTwo}
+use Rattle.fontlists.specs.TwoFonts.{lookedUpInTwo}
 use Rattle.source.specs.Source.{twoSource}
-use Rattle.source.specs.Held.{FontHeldBy, TwoHeld, TwoGives, Gives}
+use Rattle.source.specs.Held.{TwoGives, Gives}
+use Rattle.fontlists.specs.Held.{FontHeldBy}
+use Rattle.fontlists.specs.Held.{TwoHeld}
 use Rattle.drawing.specs.Drawing.{modeOf, Lined, unlined, linedFrom}
 use Rattle.twofonts.specs.declared.BothRead.{BothRead}
 use Rattle.twofonts.specs.declared.BothRead.the-variants.{Read, Refused}

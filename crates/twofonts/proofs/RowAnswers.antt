@@ -16,10 +16,10 @@ use Rattle.header.specs.declared.Header.{Header}
 use Rattle.chars.specs.declared.Entry.{Entry}
 use Rattle.font.specs.Font.{says, refuses, reading}
 use Rattle.font.proofs.ReadingLaws.{font-refusal}
-use Rattle.source.specs.declared.two.Which.{Which}
-use Rattle.source.specs.declared.two.LookedUpInTwo.{LookedUpInTwo}
-use Rattle.source.specs.declared.two.LookedUpInTwo.the-variants.{Found, StoodIn, Nothing}
-use Rattle.source.specs.TwoFonts.{lookedUpInTwo}
+use Rattle.fontlists.specs.declared.two.Which.{Which}
+use Rattle.fontlists.specs.declared.two.LookedUpInTwo.{LookedUpInTwo}
+use Rattle.fontlists.specs.declared.two.LookedUpInTwo.the-variants.{Found, StoodIn, Nothing}
+use Rattle.fontlists.specs.TwoFonts.{lookedUpInTwo}
 use Rattle.twofonts.specs.declared.RequestedOfTwo.{RequestedOfTwo}
 use Rattle.twofonts.specs.declared.RequestedOfTwo.the-variants.{Row, Refused}
 use Rattle.twofonts.specs.Fonts.{alike}

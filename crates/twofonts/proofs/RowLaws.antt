@@ -17,11 +17,11 @@ use Rattle.header.specs.declared.Header.{Header}
 use Rattle.chars.specs.declared.Entry.{Entry}
 use Rattle.font.specs.Font.{FontReading, says, refuses, reading}
 use Rattle.request.proofs.RowLaws.{row-stands}
-use Rattle.source.specs.declared.two.Which.{Which}
-use Rattle.source.specs.declared.two.Which.the-variants.{First, Second}
-use Rattle.source.specs.declared.two.LookedUpInTwo.{LookedUpInTwo}
-use Rattle.source.specs.declared.two.LookedUpInTwo.the-variants.{Found, StoodIn, Nothing}
-use Rattle.source.specs.TwoFonts.{lookedUpInTwo, bytesIn}
+use Rattle.fontlists.specs.declared.two.Which.{Which}
+use Rattle.fontlists.specs.declared.two.Which.the-variants.{First, Second}
+use Rattle.fontlists.specs.declared.two.LookedUpInTwo.{LookedUpInTwo}
+use Rattle.fontlists.specs.declared.two.LookedUpInTwo.the-variants.{Found, StoodIn, Nothing}
+use Rattle.fontlists.specs.TwoFonts.{lookedUpInTwo, bytesIn}
 use Rattle.source.proofs.TwoLaws.{charactersIn, Among, AmongTwo, among-two}
 use Rattle.twofonts.specs.declared.RequestedOfTwo.{RequestedOfTwo}
 use Rattle.twofonts.specs.declared.RequestedOfTwo.the-variants.{Row, Refused}

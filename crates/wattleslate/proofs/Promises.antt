@@ -186,10 +186,10 @@ use Rattle.pack.proofs.TableLaws as pack-rows
 use Rattle.packdrawing.specs.PackDrawing.{packMode, packLined, MadeOf}
 use Rattle.packdrawing.proofs.Answers as pack-drawing
 use Rattle.packdrawing.proofs.FontAndPack as font-pack
-use Rattle.source.specs.declared.two.Which.{Which}
-use Rattle.source.specs.declared.two.Which.the-variants as which-is
-use Rattle.source.specs.declared.two.LookedUpInTwo.the-variants as in-two
-use Rattle.source.specs.TwoFonts.{lookedUpInTwo, bytesIn}
+use Rattle.fontlists.specs.declared.two.Which.{Which}
+use Rattle.fontlists.specs.declared.two.Which.the-variants as which-is
+use Rattle.fontlists.specs.declared.two.LookedUpInTwo.the-variants as in-two
+use Rattle.fontlists.specs.TwoFonts.{lookedUpInTwo, bytesIn}
 use Rattle.reader.specs.declared.Use.the-variants as use-is
 use Rattle.reader.specs.Reader.{lastOf}
 use Rattle.source.specs.Source.{twoSource}

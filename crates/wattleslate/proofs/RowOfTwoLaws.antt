@@ -9,9 +9,9 @@ use denote.Ref.{RefT, ptr}
 use Rattle.ground.specs.declared.refusals.Refusal.{Refusal}
 use Rattle.ground.proofs.Tests.{clash}
 use Rattle.subchars.specs.declared.Code.{Code}
-use Rattle.source.specs.declared.two.Which.{Which}
-use Rattle.source.specs.declared.two.Which.the-variants.{First, Second}
-use Rattle.source.specs.TwoFonts.{bytesIn}
+use Rattle.fontlists.specs.declared.two.Which.{Which}
+use Rattle.fontlists.specs.declared.two.Which.the-variants.{First, Second}
+use Rattle.fontlists.specs.TwoFonts.{bytesIn}
 use Rattle.twofonts.specs.declared.RequestedOfTwo.the-variants.{Row, Refused}
 use Rattle.twofonts.specs.RowOfTwo.{rowOfTwo}
 use Rattle.wattleslate.specs.RowOfTwoCall.{partOfTwo, rowOfTwoBytes, lentIn, LiesInOne}

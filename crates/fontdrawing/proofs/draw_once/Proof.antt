@@ -6,7 +6,7 @@ use Rattle.subchars.specs.declared.Mode.{Mode}
 use Rattle.flc.specs.Control.{control}
 use Rattle.reader.specs.declared.FontAnswer.{FontAnswer}
 use Rattle.source.specs.Source.{fontSource}
-use Rattle.source.specs.Held.{FontHeldBy}
+use Rattle.fontlists.specs.Held.{FontHeldBy}
 use Rattle.source.proofs.CharacterLaws.{font-gives}
 use Rattle.drawing.specs.Drawing.{Lined, linedFrom, PutOut}
 use Rattle.drawing.proofs.OutputLaws.{font-lined, font-unlined}

@@ -1,4 +1,4 @@
--- `source::two::choose` meets its contract.
+-- `fontlists::two::choose` meets its contract.
 -- Assumes nothing.
 use mathlib.Core.Path.{sym, _∙_, subst}
 use borrow.Author.Needs.{needs}

@@ -16,7 +16,7 @@ use Rattle.reader.specs.declared.FontAnswer.{FontAnswer}
 use Rattle.reader.specs.declared.FontAnswer.the-variants as step
 use Rattle.reader.specs.Reader.{entriesOf, ReadInto}
 use Rattle.reader.proofs.ReadLaws.{read-says, unread-refuses}
-use Rattle.source.specs.Held.{FontHeld}
+use Rattle.fontlists.specs.Held.{FontHeld}
 
 -- A filled list has its length.
 pub room-kept : (a a′ : List ℤ) (b b′ c c′ : List ℕ) → CharacterRoom maxCharacters a b c → length a′ ≡ length a → length b′ ≡ length b → length c′ ≡ length c → CharacterRoom maxCharacters a′ b′ c′

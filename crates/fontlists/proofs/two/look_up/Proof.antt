@@ -1,4 +1,4 @@
--- `source::two::look_up` meets its contract.
+-- `fontlists::two::look_up` meets its contract.
 -- Assumes nothing.
 use mathlib.Core.Path.{sym, ap₂, _∙_}
 use native.Mathlib.Omega.{arith}
@@ -7,10 +7,10 @@ use lib.Seq.{length-take-le}
 use borrow.Author.Needs.{needs}
 use Rattle.ground.specs.Limits.{maxCharacters}
 use Rattle.index.specs.Latest.{smallCodes}
-use Rattle.source.specs.Steps.{eitherOf}
-use Rattle.source.proofs.TwoLaws.{second-held, either-looked-up}
-use Rattle.source.proofs.two.look_up.Statement.{statement}
-use Rattle.source.proofs.two.look_up.Tie as tie
+use Rattle.fontlists.specs.Steps.{eitherOf}
+use Rattle.fontlists.proofs.TwoLaws.{second-held, either-looked-up}
+use Rattle.fontlists.proofs.two.look_up.Statement.{statement}
+use Rattle.fontlists.proofs.two.look_up.Tie as tie
 
 slice-aggregate-find-known : tie.Need-slice-aggregate-find-known
 slice-aggregate-find-known c = sym (length-take-le maxCharacters (c .before .before .before .before .args .codes .now) (c .before .before .before .before .pre .4 .room .for-codes))

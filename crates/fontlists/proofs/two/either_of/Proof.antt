@@ -1,11 +1,11 @@
--- `source::two::either_of` meets its contract.
+-- `fontlists::two::either_of` meets its contract.
 -- Assumes nothing.
 use mathlib.Core.Path.{sym, ap, ap₂}
 use borrow.Author.Needs.{needs}
 use Rattle.reader.specs.declared.LookedUp.{LookedUp}
-use Rattle.source.specs.Steps.{eitherOf}
-use Rattle.source.proofs.two.either_of.Statement.{statement}
-use Rattle.source.proofs.two.either_of.Tie as tie
+use Rattle.fontlists.specs.Steps.{eitherOf}
+use Rattle.fontlists.proofs.two.either_of.Statement.{statement}
+use Rattle.fontlists.proofs.two.either_of.Tie as tie
 
 enum-known-first : tie.Need-enum-known-first
 enum-known-first c = search needs

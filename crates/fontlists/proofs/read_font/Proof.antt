@@ -1,11 +1,11 @@
--- `source::read_font` meets its contract.
+-- `fontlists::read_font` meets its contract.
 -- Assumes nothing.
 use mathlib.Core.Path.{sym}
 use lib.Seq.{length-take-le}
-use Rattle.source.proofs.HeldLaws.{room-kept, few-characters, font-held, font-unread}
+use Rattle.fontlists.proofs.HeldLaws.{room-kept, few-characters, font-held, font-unread}
 use borrow.Author.Needs.{needs}
-use Rattle.source.proofs.read_font.Statement.{statement}
-use Rattle.source.proofs.read_font.Tie as tie
+use Rattle.fontlists.proofs.read_font.Statement.{statement}
+use Rattle.fontlists.proofs.read_font.Tie as tie
 
 read-lists-requires : tie.Need-read-lists-requires
 read-lists-requires c κs = search needs

@@ -9,10 +9,10 @@ use Rattle.chars.specs.declared.Entry.{Entry}
 use Rattle.reader.specs.declared.Use.{Use}
 use Rattle.reader.specs.declared.Use.the-variants as last
 use Rattle.reader.specs.Reader.{lastOf}
-use Rattle.source.specs.declared.two.Which.{Which}
-use Rattle.source.specs.declared.two.Which.the-variants.{First, Second}
-use Rattle.source.specs.declared.two.LookedUpInTwo.{LookedUpInTwo}
-use Rattle.source.specs.declared.two.LookedUpInTwo.the-variants.{Found, StoodIn, Nothing}
+use Rattle.fontlists.specs.declared.two.Which.{Which}
+use Rattle.fontlists.specs.declared.two.Which.the-variants.{First, Second}
+use Rattle.fontlists.specs.declared.two.LookedUpInTwo.{LookedUpInTwo}
+use Rattle.fontlists.specs.declared.two.LookedUpInTwo.the-variants.{Found, StoodIn, Nothing}
 
 -- The first of the four tries that has an entry: the code in the first font and in the second, code 0 in the first and in the second.
 abbrev pub firstTry : Use → Use → Use → Use → LookedUpInTwo
