@@ -1,7 +1,6 @@
 // Drawing a line of text from a source of characters, by a control file.
 use figure::PutAnswer;
 use flc::ControlAnswer;
-use flc::mapping;
 use ground::limits;
 use ground::refusals;
 use ground::refusals::Refusal;
@@ -26,7 +25,7 @@ ghost use Rattle.chars.specs.Codes.{code};
 ghost use Rattle.join.specs.Writing.{RowAfterRow};
 ghost use Rattle.figure.specs.Scratch.{scratchLine};
 ghost use Rattle.flc.specs.Control as flc;
-ghost use Rattle.flc.specs.Passing.{ControlHeld};
+ghost use Rattle.mapping.specs.Passing.{ControlHeld};
 ghost use Rattle.source.specs.Source.{Choice, Source};
 ghost use Rattle.source.specs.Counting.{countsOf};
 ghost use Rattle.source.specs.Held.{Gives};

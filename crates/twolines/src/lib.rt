@@ -22,7 +22,7 @@ ghost use lib.ListN.{length, take, drop};
 ghost use Rattle.ground.specs.Area.{zeros};
 ghost use Rattle.ground.specs.Limits.{maxLineWidth, maxHeight, maxText, minScratch, minStackedScratch};
 ghost use Rattle.figure.specs.Scratch.{lineStart};
-ghost use Rattle.flc.specs.Passing.{ControlHeld};
+ghost use Rattle.mapping.specs.Passing.{ControlHeld};
 ghost use Rattle.subchars.specs.declared.Code.{Code};
 ghost use Rattle.subchars.specs.declared.Mode.{Mode};
 ghost use Rattle.source.specs.Source.{Source};

@@ -122,14 +122,15 @@ use Rattle.commands.specs.declared.fields.FieldStep.the-variants.{Field}
 use Rattle.commands.specs.Fields.{field, endsField, goodRanges}
 use Rattle.flc.specs.declared.Command.{Command}
 use Rattle.flc.specs.Control as flc
-use Rattle.flc.specs.Lists.{CommandLists, commandLists, listsOf, roomOf, controlReading}
-use Rattle.flc.specs.Mapping.{fits, newCode, throughStage, mapStages}
-use Rattle.flc.proofs.LentLaws as lent-lists
+use Rattle.flc.specs.Lists.{CommandLists, commandLists, listsOf}
+use Rattle.mapping.specs.Mapping.{fits, newCode, throughStage, mapStages}
+use Rattle.controlcalls.specs.ControlCall.{roomOf, controlReading}
+use Rattle.controlcalls.proofs.LentLaws as lent-lists
 use Rattle.flc.proofs.RefusalLaws as controls
 use Rattle.flc.proofs.TableLaws as control-rows
 use Rattle.flc.proofs.TableLaws.{Reaches}
-use Rattle.flc.proofs.MappingLaws as mapping
-use Rattle.flc.proofs.MappingLaws.{NoneFits}
+use Rattle.mapping.proofs.MappingLaws as mapping
+use Rattle.mapping.proofs.MappingLaws.{NoneFits}
 use Rattle.source.specs.Source.{Source, fontSource, packSource}
 use Rattle.drawing.specs.Drawing.{charactersOf, byteChoice, fontLine, fontCounts, lineOf, textCodes, traceOf, directionOf, Lined, drawLined, linedAnswer, bytesOf}
 use Rattle.drawing.specs.Steps.{withCharacter}
@@ -154,11 +155,11 @@ use Rattle.fontcalls.specs.declared.RowRefusal.the-variants.{NotRefused, Refuse
 use Rattle.fontcalls.specs.RowCall.{rowTells, rowTold, rowBytes}
 use Rattle.fontcalls.specs.declared.LookUpAnswer.the-variants as look-up-is
 use Rattle.fontcalls.specs.LookUpCall.{lookUpTells, lookUpTold}
-use Rattle.wattleslate.specs.declared.MapAnswer.the-variants as map-is
-use Rattle.wattleslate.specs.MapCall.{mapTells, mapTold}
+use Rattle.controlcalls.specs.declared.MapAnswer.the-variants as map-is
+use Rattle.controlcalls.specs.MapCall.{mapTells, mapTold}
 use Rattle.wattleslate.specs.DrawCall.{drawTells, drawTold, drawOutput}
 use Rattle.fontcalls.proofs.LookUpLaws as look-ups
-use Rattle.wattleslate.proofs.MapCases as mappings
+use Rattle.controlcalls.proofs.MapCases as mappings
 use Rattle.wattleslate.proofs.DrawLaws as draw-calls
 use Rattle.fontcalls.proofs.RowLaws as row-calls
 use Rattle.wattleslate.proofs.Wiping as wiping

@@ -16,7 +16,7 @@ ghost use Prim.Native.Nat.{ℕ, _<_, _≤_};
 ghost use lib.ListN.{length};
 ghost use Rattle.ground.specs.Area.{zeros};
 ghost use Rattle.ground.specs.Limits.{maxText, maxLineWidth, minLines, minScratch};
-ghost use Rattle.flc.specs.Passing.{ControlHeld};
+ghost use Rattle.mapping.specs.Passing.{ControlHeld};
 ghost use Rattle.source.specs.Held.{FontHeld};
 ghost use Rattle.source.specs.Counting.{isMissing, howMany, countsOf};
 ghost use Rattle.drawing.specs.Drawing.{textCodes};
