@@ -103,8 +103,8 @@ use Rattle.font.proofs.Comes.{Comes, comments, character, first-row, more-rows}
 use Rattle.font.proofs.TableLaws as font-rows
 use Rattle.entries.specs.Filling.{fontReading, zeroEntry, indexOf}
 use Rattle.entries.proofs.RefusalLaws as index
-use Rattle.entries.specs.Finding.{entryTells, foundTold}
-use Rattle.entries.proofs.ToldApart as entries
+use Rattle.finding.specs.Finding.{entryTells, foundTold}
+use Rattle.finding.proofs.ToldApart as finding
 use Rattle.reader.specs.declared.Use.the-variants.{Nothing}
 use Rattle.reader.specs.declared.LookedUp.{LookedUp}
 use Rattle.reader.specs.declared.LookedUp.the-variants as three
@@ -1107,7 +1107,7 @@ look-up-of-a-font = look-ups.looked-exactly
 -- "so does `find_in` over a lent index": of its first entries.
 look-up-in-an-index : (es : List Entry) (count : ℕ) (c : Code) (u : LookedUp) → foundTold es count c ≡ entryTells u ↔ lookedUp c (take count es) ≡ u
 unfolding foundTold
-look-up-in-an-index es count c u = (entries.entry-apart (lookedUp c (take count es)) u, λ e. ap entryTells e)
+look-up-in-an-index es count c u = (finding.entry-apart (lookedUp c (take count es)) u, λ e. ap entryTells e)
 
 -- "Drawing then returns how many text bytes are in the second and in the third group, by the definition of look-up": whatever gives the characters, and by
 -- any control file,

@@ -3,7 +3,7 @@ use chars::Entry;
 use reader::LookedUp;
 use subchars::Code;
 ghost use mathlib.Core.Path.{_≡_};
-ghost use Rattle.entries.specs.Steps.{isFound, better};
+ghost use Rattle.finding.specs.Steps.{isFound, better};
 
 // Whether the code itself was found.
 fn is_found(seen: LookedUp) -> bool

@@ -14,6 +14,7 @@ use borrow.Author.Tests.{ltb-true, ltb-false}
 use Rattle.subchars.specs.declared.Code.{Code}
 use Rattle.chars.specs.declared.Entry.{Entry}
 use Rattle.chars.specs.Codes.{code, sameNumber, sameCode}
+use Rattle.chars.specs.Chars.{entry}
 use Rattle.index.specs.declared.Found.the-variants.{At, Nowhere}
 use Rattle.index.specs.declared.Found as place
 use Rattle.index.specs.Index.{codeOf}
@@ -24,9 +25,12 @@ use Rattle.reader.specs.declared.Use.the-variants as use-is
 use Rattle.reader.specs.declared.LookedUp.{LookedUp}
 use Rattle.reader.specs.declared.LookedUp.the-variants.{Found, StoodIn, Nothing}
 use Rattle.reader.specs.Reader.{entryAt, atFound, lastOf, whichOf, lookedUp}
-use Rattle.entries.specs.Filling.{zeroEntry}
-use Rattle.entries.specs.Finding.{entryTells, foundTold}
-use Rattle.entries.specs.Steps.{isFound, better}
+use Rattle.finding.specs.Finding.{entryTells, foundTold}
+use Rattle.finding.specs.Steps.{isFound, better}
+
+-- what stands where a list has no entry
+abbrev pub no-entry : Entry
+no-entry = entry (code (pos 0)) 0 0
 
 pub looked-none : (c : Code) → lookedUp c [] ≡ Nothing
 unfolding lookedUp lastOf lastAt
@@ -37,7 +41,7 @@ map-take zero es = refl
 map-take (suc n) [] = refl
 map-take (suc n) (e ∷ es) = ap (λ (l : List ℤ). codeOf e ∷ l) (map-take n es)
 
-entry-at : (n : ℕ) (es : List Entry) (k : ℕ) → k < n → n ≤ length es → entryAt (take n es) k ≡ use-is.Used (getD es k zeroEntry)
+entry-at : (n : ℕ) (es : List Entry) (k : ℕ) → k < n → n ≤ length es → entryAt (take n es) k ≡ use-is.Used (getD es k no-entry)
 unfolding entryAt
 entry-at zero es k h m = absurd (omega arith)
 entry-at (suc n) [] k h m = absurd (omega arith)
@@ -49,7 +53,7 @@ module _ (es : List Entry) (i : ℕ) (small : i < length es) where
   codes = map codeOf es
 
   abbrev e : Entry
-  e = getD es i zeroEntry
+  e = getD es i no-entry
 
   inside : (z : ℤ) (k : ℕ) → lastAt z (take i codes) ≡ At k → k < i
   inside z k p = omega (arith, at-last z (take i codes) k p .inside, length-take-le i codes (omega (arith, length-map es codeOf)))
@@ -57,7 +61,7 @@ module _ (es : List Entry) (i : ℕ) (small : i < length es) where
   last-step : (z : ℤ) → lastAt z (take (suc i) codes) ≡ cond (sameNumber (e .code .0) z) (At i) (lastAt z (take i codes))
   last-step z =
       ap (λ (n : ℕ). lastAt z (take n codes)) (sym (add-one i)) ∙ last-next z codes i (omega (arith, length-map es codeOf)) ∙
-      ap (λ (x : ℤ). cond (sameNumber x z) (At i) (lastAt z (take i codes))) (List·getD-map codeOf es i zeroEntry)
+      ap (λ (x : ℤ). cond (sameNumber x z) (At i) (lastAt z (take i codes))) (List·getD-map codeOf es i no-entry)
 
   -- the last entry of a code among one entry more
   last-of-next : (z : ℤ) → lastOf z (take (suc i) es) ≡ cond (sameNumber (e .code .0) z) (use-is.Used e) (lastOf z (take i es))

@@ -1,4 +1,4 @@
--- `entries::find_in` meets its contract: a walk of its MIR, by hand, with a loop. The slice is looked into once, before the loop, and shut after it. A turn takes entry i
+-- `finding::find_in` meets its contract: a walk of its MIR, by hand, with a loop. The slice is looked into once, before the loop, and shut after it. A turn takes entry i
 -- out of the row, reads it, puts it back, and calls `better`, which is covered: what the look-up comes to among the first i becomes that among the first i + 1.
 -- Assumes nothing.
 use mathlib.Core.Path.{_≡_, refl, sym, _∙_, ap, subst}
@@ -59,26 +59,25 @@ use Rattle.reader.specs.declared.LookedUp.the-variants.{Nothing}
 use Rattle.reader.specs.Reader.{lookedUp}
 use Rattle.reader.proofs.LookedUp as U
 use Rattle.reader.proofs.LookedUp.Laws as U′
-use Rattle.entries.specs.Filling.{zeroEntry}
-use Rattle.entries.specs.Finding.{entryTells, foundTold}
-use Rattle.entries.specs.Steps.{better as betterOf}
-use Rattle.entries.proofs.Row.{R, vals, tells, place-24, step-fits, next-fits, makes, copies, typed}
-use Rattle.entries.proofs.FindLaws.{looked-none, looked-next, find-told}
-use Rattle.entries.proofs.Counted.{counts}
-use Rattle.entries.proofs.CallSmaller as S
-use Rattle.entries.proofs.CallSmaller.{Smaller}
+use Rattle.finding.specs.Finding.{entryTells, foundTold}
+use Rattle.finding.specs.Steps.{better as betterOf}
+use Rattle.finding.proofs.Row.{R, vals, tells, place-24, step-fits, next-fits, makes, copies, typed}
+use Rattle.finding.proofs.FindLaws.{no-entry, looked-none, looked-next, find-told}
+use Rattle.finding.proofs.Counted.{counts}
+use Rattle.finding.proofs.CallSmaller as S
+use Rattle.finding.proofs.CallSmaller.{Smaller}
 use Rattle.ground.proofs.smaller.Symbol as smaller-def
 use Rattle.ground.proofs.smaller.Symbol.{name as #ground·smaller}
 use Rattle.ground.proofs.smaller.Met as smaller-thm
-use Rattle.entries.proofs.seen.better as better
-use Rattle.entries.proofs.seen.better.Symbol as better-def
-use Rattle.entries.proofs.seen.better.Symbol.{name as #entries·better}
-use Rattle.entries.proofs.seen.better.Met as better-thm
-use Rattle.entries.proofs.find_in.Key.{name as #entries·find-in}
-use Rattle.entries.proofs.find_in as find-in
-use Rattle.entries.proofs.find_in.Statement as stated
-use Rattle.entries.proofs.find_in.Code as code
-use Rattle.entries.proofs.find_in.Code.Mir as mir
+use Rattle.finding.proofs.seen.better as better
+use Rattle.finding.proofs.seen.better.Symbol as better-def
+use Rattle.finding.proofs.seen.better.Symbol.{name as #finding·better}
+use Rattle.finding.proofs.seen.better.Met as better-thm
+use Rattle.finding.proofs.find_in.Key.{name as #finding·find-in}
+use Rattle.finding.proofs.find_in as find-in
+use Rattle.finding.proofs.find_in.Statement as stated
+use Rattle.finding.proofs.find_in.Code as code
+use Rattle.finding.proofs.find_in.Code.Mir as mir
 
 abbrev stayed : Stays (find-in.ended .signature .params) (find-in.ended .kept)
 stayed = (stay-none-slice (0 ∷ []) tt (plain (λ _. R)) yes, (stay-none (λ _. usize) yes, (stay-none (λ _. K.the-row) yes, tt)))
@@ -185,7 +184,7 @@ module _ {M : Type 1} (𝓤 : URA M) (H : Heap 𝓤) (A : Atoms 𝓤) (W : Given
   said-better : (d : LookedUp) (e : Entry) (r : LookedUp) → ent 𝓤 (ensured 𝓤 H A better.ended (better.clauses 𝓤 H A mem run) tt (a-better d e) tt r) (fact 𝓤 (r ≡ betterOf c d e))
   said-better d e r = exE 𝓤 _ (λ ws. snd∗ 𝓤 (sem 𝓤 H A (lasts better.ended tt (a-better d e) ws)) (fact 𝓤 (r ≡ betterOf c d e)))
 
-  module _ (𝓣 : Tables 𝓤 H) (known-smaller : Triple 𝓤 (𝓣 .C #ground·smaller) (Smaller 𝓤 H A mem run)) (known-better : Triple 𝓤 (𝓣 .C #entries·better) (Better 𝓤 H A mem run)) where
+  module _ (𝓣 : Tables 𝓤 H) (known-smaller : Triple 𝓤 (𝓣 .C #ground·smaller) (Smaller 𝓤 H A mem run)) (known-better : Triple 𝓤 (𝓣 .C #finding·better) (Better 𝓤 H A mem run)) where
     abbrev C : Calls 𝓤 H
     C = 𝓣 .C
 
@@ -224,10 +223,10 @@ module _ {M : Type 1} (𝓤 : URA M) (H : Heap 𝓤) (A : Atoms 𝓤) (W : Given
           assigns ! (bin ! (load ! (from ! (stop !)) (look ! 1 refl)) (lit ! tt) (record { fits = step-fits room within })) (from ! (stop !)) (init ! 6 refl (tt, record { fits = step-fits room within })) $
           assigns ! (bin ! (load ! (from ! (fld ! refl (stop !))) (look-in ! 9 (sub ! 0 refl (whole !)))) (load ! (from ! (stop !)) (look ! 6 refl)) tt) (from ! (stop !)) (init ! 7 refl (tt, tt)) $
           rewrite ! 7 (λ (p′ : ℕ). ‵ (fat fullShare tyPtr l₁₀ 0 (vptr b p′))) (sym (place-24 o i)) refl $
-          elem-out ! R (Is R) (shows 𝓤 H A R) vals tells q′ ys i zeroEntry b o within (λ g.
+          elem-out ! R (Is R) (shows 𝓤 H A R) vals tells q′ ys i no-entry b o within (λ g.
           -- [index[i]; what it owns; the others; _6; …]
           assigns ! (of-opd ! (load ! (from ! (hop ! (look ! 9 refl) (stop !))) (look-raw ! 0 refl))) (from ! (stop !)) (init ! 10 refl (typed 𝓤 H A W elem g)) $
-          elem-back ! R q′ ys i zeroEntry (vals elem) b o within $
+          elem-back ! R q′ ys i no-entry (vals elem) b o within $
           -- the call
           use0 W (raw (Better 𝓤 H A mem run .pre (to-better (u i) elem))) (asked-better (u i) elem good g) $
           calls-at ! (fmOf 𝓤 H (W .laws) 𝓣) (Better 𝓤 H A mem run) known-better (to-better (u i) elem)
@@ -246,7 +245,7 @@ module _ {M : Type 1} (𝓤 : URA M) (H : Heap 𝓤) (A : Atoms 𝓤) (W : Given
           within = omega (arith, small)
 
           elem : Entry
-          elem = getD ys i zeroEntry
+          elem = getD ys i no-entry
 
       ends : (X : SProp 𝓤) → ent 𝓤 (At n) (Wp 𝓤 H C Λ En mir.turn-1 (afterTurn 𝓤 H X Left))
       unfolding afterTurn
@@ -290,7 +289,7 @@ module _ {M : Type 1} (𝓤 : URA M) (H : Heap 𝓤) (A : Atoms 𝓤) (W : Given
     walk : T (hasTy K′.mir vc) × WT vc → ent 𝓤 (onEntry 𝓤 H A find-in.signature (κ, tt) (q, tt) x at) (WpFn 𝓤 H C Λ code.function (sl ∷ vint w64 count ∷ vc ∷ []) Post)
     walk wt = subst (λ (f : Fn). ent 𝓤 (onEntry 𝓤 H A find-in.signature (κ, tt) (q, tt) x at) (WpFn 𝓤 H C Λ f (sl ∷ vint w64 count ∷ vc ∷ []) Post)) same-fn (walk-in wt)
 
-module _ {M : Type 1} (𝓤 : URA M) (H : Heap 𝓤) (A : Atoms 𝓤) (W : Given 𝓤 H A) (mem : Memory → SProp 𝓤) (run : Routine → Fun 𝓤) (𝓣 : Tables 𝓤 H) (known-smaller : Triple 𝓤 (𝓣 .C #ground·smaller) (Smaller 𝓤 H A mem run)) (known-better : Triple 𝓤 (𝓣 .C #entries·better) (Better 𝓤 H A mem run)) where
+module _ {M : Type 1} (𝓤 : URA M) (H : Heap 𝓤) (A : Atoms 𝓤) (W : Given 𝓤 H A) (mem : Memory → SProp 𝓤) (run : Routine → Fun 𝓤) (𝓣 : Tables 𝓤 H) (known-smaller : Triple 𝓤 (𝓣 .C #ground·smaller) (Smaller 𝓤 H A mem run)) (known-better : Triple 𝓤 (𝓣 .C #finding·better) (Better 𝓤 H A mem run)) where
   find-in-walks : Walks 𝓤 H A find-in.ended stayed (WpFn 𝓤 H (𝓣 .C) (𝓣 .Λ) code.function) (find-in.clauses 𝓤 H A mem run)
   find-in-walks = walked 𝓤 H A find-in.ended stayed (find-in.clauses 𝓤 H A mem run) (WpFn 𝓤 H (𝓣 .C) (𝓣 .Λ) code.function)
       (λ κs. (slice-vals, (uint-vals w64, (SL.vals K.the-type K′.the-laws, tt)))) (λ κs. (shr-slice-tells (named 0) (κs .0) R, (uint-tells w64, (SL.tells K.the-type K′.the-laws, tt))))
@@ -308,7 +307,7 @@ pub find-in-spec : {M : Type 1} → stated.statement M
 unfolding code.routine tablesOf
 find-in-spec 𝓤 H 𝓜 𝓖 𝓡 =
     entered 𝓤 H (tripleOf 𝓤 H (𝓖 .A) find-in.signature (find-in.spec 𝓤 H (𝓖 .A) (𝓜 .mem) (𝓡 .run)))
-    (tables 𝓤 H 𝓜 𝓡 code.env .C) (tables 𝓤 H 𝓜 𝓡 code.env .Λ) #entries·find-in code.function (code.unfolded 𝓤 H 𝓜 𝓡)
+    (tables 𝓤 H 𝓜 𝓡 code.env .C) (tables 𝓤 H 𝓜 𝓡 code.env .Λ) #finding·find-in code.function (code.unfolded 𝓤 H 𝓜 𝓡)
     (find-in-meets 𝓤 H (𝓖 .A) (givenOf 𝓤 H 𝓜 𝓖) (𝓜 .mem) (𝓡 .run) (tablesOf 𝓤 H 𝓜 (tables 𝓤 H 𝓜 𝓡 code.env))
     (cited 𝓤 H (Smaller 𝓤 H (𝓖 .A) (𝓜 .mem) (𝓡 .run)) 𝓜 𝓡 code.env #ground·smaller smaller-def.routine code.calls-ground·smaller (smaller-thm.met 𝓤 H 𝓜 𝓖 𝓡))
-    (cited 𝓤 H (Better 𝓤 H (𝓖 .A) (𝓜 .mem) (𝓡 .run)) 𝓜 𝓡 code.env #entries·better better-def.routine code.calls-entries·seen·better (better-thm.met 𝓤 H 𝓜 𝓖 𝓡)))
+    (cited 𝓤 H (Better 𝓤 H (𝓖 .A) (𝓜 .mem) (𝓡 .run)) 𝓜 𝓡 code.env #finding·better better-def.routine code.calls-finding·seen·better (better-thm.met 𝓤 H 𝓜 𝓖 𝓡)))

@@ -1,10 +1,10 @@
--- `entries::seen::better` meets its contract: the tests decide.
+-- `finding::seen::better` meets its contract: the tests decide.
 -- Assumes nothing.
 use mathlib.Core.Path.{sym, _∙_}
-use Rattle.entries.proofs.FindLaws.{better-own, better-before, better-zero, better-none}
+use Rattle.finding.proofs.FindLaws.{better-own, better-before, better-zero, better-none}
 use borrow.Author.Needs.{needs}
-use Rattle.entries.proofs.seen.better.Statement.{statement}
-use Rattle.entries.proofs.seen.better.Tie as tie
+use Rattle.finding.proofs.seen.better.Statement.{statement}
+use Rattle.finding.proofs.seen.better.Tie as tie
 
 same-code-requires : tie.Need-same-code-requires
 same-code-requires c κs = search needs
