@@ -10,7 +10,7 @@ use Rattle.reader.specs.declared.FontAnswer.the-variants as step
 use Rattle.flc.specs.declared.ControlAnswer.{ControlAnswer}
 use Rattle.flc.specs.declared.ControlAnswer.the-variants as answer
 use Rattle.flc.specs.Control as flc
-use Rattle.flc.specs.Passing.{ControlHeldBy}
+use Rattle.mapping.specs.Passing.{ControlHeldBy}
 use Rattle.fontlists.specs.Held.{FontHeldBy}
 use Rattle.bothfiles.specs.declared.Files.{Files}
 use Rattle.drawing.specs.Drawing.{linedBy, linedOf}

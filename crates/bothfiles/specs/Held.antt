@@ -8,7 +8,7 @@ use Rattle.reader.specs.declared.FontAnswer.{FontAnswer}
 use Rattle.reader.specs.declared.FontAnswer.the-variants as step
 use Rattle.flc.specs.declared.ControlAnswer.{ControlAnswer}
 use Rattle.flc.specs.declared.ControlAnswer.the-variants as answer
-use Rattle.flc.specs.Passing.{ControlHeld}
+use Rattle.mapping.specs.Passing.{ControlHeld}
 use Rattle.fontlists.specs.Held.{FontHeld}
 use Rattle.bothfiles.specs.declared.Files.{Files}
 use Rattle.bothfiles.specs.declared.Files.the-variants.{Read, Refused}

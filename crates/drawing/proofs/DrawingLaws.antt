@@ -20,7 +20,7 @@ use Rattle.source.specs.Source.{Choice, found, stoodIn, nothing, Source}
 use Rattle.source.specs.Counting.{isNothing, one, howMany, countsOf, counted}
 use Rattle.source.proofs.CountLaws.{counts-more}
 use Rattle.flc.specs.declared.Command.{Command}
-use Rattle.flc.specs.Mapping.{mapStages}
+use Rattle.mapping.specs.Mapping.{mapStages}
 use Rattle.drawing.specs.Drawing.{codesOf, mappedCodes, textCodes, withChoice, charactersOf, byteChoice, lineOf, traceOf}
 use Rattle.drawing.specs.Steps.{withCharacter}
 

@@ -33,7 +33,7 @@ use Rattle.source.specs.Source.{Choice, found, stoodIn, nothing, Source, fontSo
 use Rattle.source.specs.Counting.{countsOf}
 use Rattle.flc.specs.declared.Command.{Command}
 use Rattle.flc.specs.Control as flc
-use Rattle.flc.specs.Mapping.{mapStages}
+use Rattle.mapping.specs.Mapping.{mapStages}
 use Rattle.drawing.specs.declared.DrawAnswer.{DrawAnswer}
 use Rattle.drawing.specs.declared.DrawAnswer.the-variants.{Drawn, Refused}
 

@@ -1,6 +1,5 @@
 // Drawing a line of text from a source of characters, by a control file.
 use flc::ControlAnswer;
-use flc::mapping;
 use fontlists::two;
 use ground::limits;
 use ground::refusals;
@@ -26,7 +25,7 @@ ghost use Rattle.chars.specs.Codes.{code};
 ghost use Rattle.blocks.specs.Writing.{RowAfterRow};
 ghost use Rattle.showing.specs.Scratch.{scratchLine};
 ghost use Rattle.flc.specs.Control as flc;
-ghost use Rattle.flc.specs.Passing.{ControlHeld};
+ghost use Rattle.mapping.specs.Passing.{ControlHeld};
 ghost use Rattle.source.specs.Source.{Choice, Source};
 ghost use Rattle.source.specs.Counting.{countsOf};
 ghost use Rattle.source.specs.Held.{Gives};

@@ -16,7 +16,7 @@ ghost use lib.ListN.{length};
 ghost use Rattle.ground.specs.Area.{zeros};
 ghost use Rattle.ground.specs.Limits.{maxLineWidth, maxText, minScratch};
 ghost use Rattle.flc.specs.Control as flc;
-ghost use Rattle.flc.specs.Passing.{ControlHeld};
+ghost use Rattle.mapping.specs.Passing.{ControlHeld};
 ghost use Rattle.source.specs.Source.{Source};
 ghost use Rattle.source.specs.Held.{Gives};
 ghost use Rattle.drawing.specs.Drawing.{textCodes};

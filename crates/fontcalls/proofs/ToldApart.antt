@@ -6,7 +6,7 @@ use Rattle.fontcalls.specs.declared.LookUpAnswer.{LookUpAnswer}
 use Rattle.fontcalls.specs.declared.LookUpAnswer.the-variants as look-up-is
 use Rattle.fontcalls.specs.declared.RowRefusal.{RowRefusal}
 use Rattle.fontcalls.specs.declared.RowRefusal.the-variants as row-is
-use Rattle.entries.proofs.ToldApart.{entry-apart}
+use Rattle.finding.proofs.ToldApart.{entry-apart}
 use Rattle.fontcalls.specs.LookUpCall.{LookUpTold, lookUpTells}
 use Rattle.fontcalls.specs.RowCall.{RowTold, rowTells}
 

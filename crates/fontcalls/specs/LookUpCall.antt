@@ -7,7 +7,7 @@ use Rattle.subchars.specs.declared.Code.{Code}
 use Rattle.font.specs.Font.{FontReading, says, refuses, reading}
 use Rattle.reader.specs.declared.LookedUp.the-variants.{Nothing}
 use Rattle.reader.specs.Reader.{lookedUp}
-use Rattle.entries.specs.Finding.{EntryTold, entryTells}
+use Rattle.finding.specs.Finding.{EntryTold, entryTells}
 use Rattle.fontcalls.specs.declared.LookUpAnswer.{LookUpAnswer}
 use Rattle.fontcalls.specs.declared.LookUpAnswer.the-variants.{Looked, Refused}
 

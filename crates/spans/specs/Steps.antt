@@ -16,7 +16,7 @@ use Rattle.source.specs.declared.Origin.the-variants.{Font}
 use Rattle.source.specs.Held.{Gives}
 use Rattle.source.specs.Counting.{isMissing, howMany}
 use Rattle.flc.specs.declared.Command.{Command}
-use Rattle.flc.specs.Passing.{ControlHeld}
+use Rattle.mapping.specs.Passing.{ControlHeld}
 use Rattle.drawing.specs.Drawing.{textCodes}
 use Rattle.spans.specs.declared.Drawer.{Drawer}
 use Rattle.spans.specs.declared.Measured.{Measured}

@@ -19,7 +19,7 @@ ghost use Prim.Native.Nat.{ℕ, _≤_};
 ghost use lib.ListN.{length};
 ghost use Rattle.ground.specs.Limits.{maxLineWidth, maxHeight, maxText, minStackedScratch};
 ghost use Rattle.showing.specs.Scratch.{lineStart};
-ghost use Rattle.flc.specs.Passing.{ControlHeld};
+ghost use Rattle.mapping.specs.Passing.{ControlHeld};
 ghost use Rattle.subchars.specs.declared.Code.{Code};
 ghost use Rattle.subchars.specs.declared.Mode.{Mode};
 ghost use Rattle.source.specs.Source.{Source};

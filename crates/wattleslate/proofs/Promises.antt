@@ -105,8 +105,8 @@ use Rattle.font.proofs.Comes.{Comes, comments, character, first-row, more-rows}
 use Rattle.font.proofs.TableLaws as font-rows
 use Rattle.entries.specs.Filling.{fontReading, zeroEntry, indexOf}
 use Rattle.entries.proofs.RefusalLaws as index
-use Rattle.entries.specs.Finding.{entryTells, foundTold}
-use Rattle.entries.proofs.ToldApart as entries
+use Rattle.finding.specs.Finding.{entryTells, foundTold}
+use Rattle.finding.proofs.ToldApart as finding
 use Rattle.reader.specs.declared.Use.the-variants.{Nothing}
 use Rattle.reader.specs.declared.LookedUp.{LookedUp}
 use Rattle.reader.specs.declared.LookedUp.the-variants as three
@@ -124,14 +124,15 @@ use Rattle.commands.specs.declared.fields.FieldStep.the-variants.{Field}
 use Rattle.commands.specs.Fields.{field, endsField, goodRanges}
 use Rattle.flc.specs.declared.Command.{Command}
 use Rattle.flc.specs.Control as flc
-use Rattle.flc.specs.Lists.{CommandLists, commandLists, listsOf, roomOf, controlReading}
-use Rattle.flc.specs.Mapping.{fits, newCode, throughStage, mapStages}
-use Rattle.flc.proofs.LentLaws as lent-lists
+use Rattle.flc.specs.Lists.{CommandLists, commandLists, listsOf}
+use Rattle.mapping.specs.Mapping.{fits, newCode, throughStage, mapStages}
+use Rattle.controlcalls.specs.ControlCall.{roomOf, controlReading}
+use Rattle.controlcalls.proofs.LentLaws as lent-lists
 use Rattle.flc.proofs.RefusalLaws as controls
 use Rattle.flc.proofs.TableLaws as control-rows
 use Rattle.flc.proofs.TableLaws.{Reaches}
-use Rattle.flc.proofs.MappingLaws as mapping
-use Rattle.flc.proofs.MappingLaws.{NoneFits}
+use Rattle.mapping.proofs.MappingLaws as mapping
+use Rattle.mapping.proofs.MappingLaws.{NoneFits}
 use Rattle.source.specs.Source.{Source, fontSource, packSource}
 use Rattle.drawing.specs.Drawing.{charactersOf, byteChoice, fontLine, fontCounts, lineOf, textCodes, traceOf, directionOf, Lined, drawLined, linedAnswer, bytesOf}
 use Rattle.drawing.specs.Steps.{withCharacter}
@@ -156,11 +157,11 @@ use Rattle.fontcalls.specs.declared.RowRefusal.the-variants.{NotRefused, Refuse
 use Rattle.fontcalls.specs.RowCall.{rowTells, rowTold, rowBytes}
 use Rattle.fontcalls.specs.declared.LookUpAnswer.the-variants as look-up-is
 use Rattle.fontcalls.specs.LookUpCall.{lookUpTells, lookUpTold}
-use Rattle.wattleslate.specs.declared.MapAnswer.the-variants as map-is
-use Rattle.wattleslate.specs.MapCall.{mapTells, mapTold}
+use Rattle.controlcalls.specs.declared.MapAnswer.the-variants as map-is
+use Rattle.controlcalls.specs.MapCall.{mapTells, mapTold}
 use Rattle.wattleslate.specs.DrawCall.{drawTells, drawTold, drawOutput}
 use Rattle.fontcalls.proofs.LookUpLaws as look-ups
-use Rattle.wattleslate.proofs.MapCases as mappings
+use Rattle.controlcalls.proofs.MapCases as mappings
 use Rattle.wattleslate.proofs.DrawLaws as draw-calls
 use Rattle.fontcalls.proofs.RowLaws as row-calls
 use Rattle.wattleslate.proofs.Wiping as wiping
@@ -1108,7 +1109,7 @@ look-up-of-a-font = look-ups.looked-exactly
 -- "so does `find_in` over a lent index": of its first entries.
 look-up-in-an-index : (es : List Entry) (count : ℕ) (c : Code) (u : LookedUp) → foundTold es count c ≡ entryTells u ↔ lookedUp c (take count es) ≡ u
 unfolding foundTold
-look-up-in-an-index es count c u = (entries.entry-apart (lookedUp c (take count es)) u, λ e. ap entryTells e)
+look-up-in-an-index es count c u = (finding.entry-apart (lookedUp c (take count es)) u, λ e. ap entryTells e)
 
 -- "Drawing then returns how many text bytes are in the second and in the third group, by the definition of look-up": whatever gives the characters, and by
 -- any control file,

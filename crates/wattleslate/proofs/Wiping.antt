@@ -22,7 +22,8 @@ use Rattle.showing.specs.Output.{shown, outputOf, putOnly, outputBytes}
 use Rattle.font.specs.Font.{FontReading, refuses}
 use Rattle.entries.specs.Filling.{fontReading, zeroEntry, indexOf}
 use Rattle.flc.specs.Control as flc
-use Rattle.flc.specs.Lists.{CommandLists, commandLists, listsOf, controlReading}
+use Rattle.flc.specs.Lists.{CommandLists, commandLists, listsOf}
+use Rattle.controlcalls.specs.ControlCall.{controlReading}
 use Rattle.drawing.specs.declared.DrawAnswer.{DrawAnswer}
 use Rattle.drawing.specs.declared.DrawAnswer.the-variants as drawn
 use Rattle.drawing.specs.Drawing.{Lined, lined, unlined, drawLined, withCounts, linedAnswer, bytesOf}

@@ -1,20 +1,21 @@
 // The public calls. Each is total: it tests its own input, and its `ensures` hold for every input.
 
-// The types that the calls take and answer, the two calls over a lent index, and those that ask one font.
+// The types that the calls take and answer, the two calls over a lent index, those that ask one font and those about one control file.
 pub use chars::Entry;
 pub use checking::CheckAnswer;
+pub use controlcalls::MapAnswer;
+pub use controlcalls::map_code;
+pub use controlcalls::read_control;
 pub use drawing::DrawAnswer;
-pub use entries::find_in;
 pub use entries::read_font;
+pub use finding::find_in;
 pub use flc::ControlAnswer;
-use flc::mapping;
 pub use fontcalls::LookUpAnswer;
 pub use fontcalls::RowRefusal;
 pub use fontcalls::look_up;
 pub use fontcalls::row;
 pub use fontcalls::row_refusal;
 pub use fontlists::two::Which;
-use ground::limits;
 pub use ground::refusals::Refusal;
 pub use header::Given;
 pub use header::Header;
@@ -53,48 +54,8 @@ ghost use Rattle.packdrawing.specs.PackDrawing.{packLined};
 ghost use Rattle.twofonts.specs.RowOfTwo.{rowOfTwo};
 ghost use Rattle.twofonts.specs.TwoDrawing.{twoLined};
 ghost use Rattle.drawingcheck.specs.CheckDrawing.{drawingChecked};
-ghost use Rattle.flc.specs.Lists.{commandLists};
 ghost use Rattle.wattleslate.specs.RowOfTwoCall.{rowOfTwoBytes, LiesInOne};
-ghost use Rattle.wattleslate.specs.ControlCall.{ControlRead};
-ghost use Rattle.wattleslate.specs.MapCall.{mapTells, mapTold};
 ghost use Rattle.wattleslate.specs.DrawCall.{drawTells, drawTold, drawOutput};
-
-// What mapping a code answers: the new code, or a refusal of the control file.
-pub enum MapAnswer {
-    Mapped(Code),
-    Refused(Refusal),
-}
-
-// Reads a control file into four lists of 256 entries or more, with zeros behind: each mapping command's stage, first and last code, and first
-// new code. The answer counts commands and stages. A refusal (9 to 14) leaves the lists all zeros.
-pub fn read_control(
-    control: &[u8],
-    stages: &mut [usize],
-    firsts: &mut [i32],
-    lasts: &mut [i32],
-    news: &mut [i32],
-) -> ControlAnswer
-    ensures { λ r. ⌜ ControlRead (now (control .entry)) (commandLists (now (stages .entry)) (now (firsts .entry)) (now (lasts .entry)) (now (news .entry))) r (commandLists (now (stages .exit)) (now (firsts .exit)) (now (lasts .exit)) (now (news .exit))) ⌝ }
-{
-    flc::read_lent(control, stages, firsts, lasts, news)
-}
-
-// Maps a code by a control file, stage after stage. Refusals are those of the file (10 to 14).
-pub fn map_code(control: &[u8], code: Code) -> MapAnswer
-    ensures answer { λ r. ⌜ mapTells r ≡ mapTold (now (control .entry)) code ⌝ }
-{
-    let mut stages = [0usize; limits::MAX_COMMANDS];
-    let mut firsts = [0i32; limits::MAX_COMMANDS];
-    let mut lasts = [0i32; limits::MAX_COMMANDS];
-    let mut news = [0i32; limits::MAX_COMMANDS];
-    match flc::read_lists(control, &mut stages, &mut firsts, &mut lasts, &mut news) {
-        ControlAnswer::Read {
-            commands,
-            stages: _,
-        } => MapAnswer::Mapped(mapping::map_by(&stages, &firsts, &lasts, &news, commands, code)),
-        ControlAnswer::Refused(r) => MapAnswer::Refused(r),
-    }
-}
 
 // Joins a FIGcharacter to a line of equal height as the layout says, and writes the result to `out`, row after row with zeros behind.
 // Writing left to right the character goes to the line's right, otherwise to its left. A refusal (17, 16, 9) leaves `out` all zeros.

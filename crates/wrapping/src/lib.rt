@@ -20,7 +20,7 @@ ghost use Rattle.blocks.specs.Block.{Block};
 ghost use Rattle.blocks.specs.Writing.{Like};
 ghost use Rattle.showing.specs.Output.{shown};
 ghost use Rattle.showing.specs.Scratch.{scratchLine};
-ghost use Rattle.flc.specs.Passing.{ControlHeld};
+ghost use Rattle.mapping.specs.Passing.{ControlHeld};
 ghost use Rattle.fontlists.specs.Held.{FontHeld};
 ghost use Rattle.source.specs.Counting.{isMissing, howMany, countsOf};
 ghost use Rattle.drawing.specs.Drawing.{textCodes};

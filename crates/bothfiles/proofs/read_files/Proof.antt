@@ -1,7 +1,7 @@
 -- `bothfiles::read_files` meets its contract.
 -- Assumes nothing.
 use mathlib.Core.Path.{sym}
-use Rattle.flc.proofs.HeldLaws.{told}
+use Rattle.mapping.proofs.HeldLaws.{told}
 use Rattle.bothfiles.proofs.HeldLaws.{held-as, files-held}
 use borrow.Author.Needs.{needs}
 use Rattle.bothfiles.proofs.read_files.Statement.{statement}
