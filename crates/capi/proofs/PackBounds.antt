@@ -37,7 +37,7 @@ use Rattle.flc.specs.Control as flc
 use Rattle.source.specs.Source.{Source, packSource}
 use Rattle.source.specs.Counting.{countsOf}
 use Rattle.source.proofs.CountLaws.{few-replaced}
-use Rattle.drawing.specs.Drawing.{textCodes, lineOf, draws, refuses, unlined, linedText, linedRead, linedFrom, withCounts, linedAnswer}
+use Rattle.drawing.specs.Drawing.{textCodes, lineOf, draws, refuses, unlined, linedRead, linedFrom, withCounts, linedAnswer}
 use Rattle.drawing.proofs.DrawingLaws.{as-many}
 use Rattle.packdrawing.specs.PackDrawing.{packMode, packBy, packOf, packLined}
 use Rattle.answers.specs.Numbers.{valueBound}

@@ -3,14 +3,13 @@
 -- column, and the statements are about the overlap and the stack that the contract of the call `stack` cites, for any two blocks a, above, and b.
 -- Then the sentences of Q-1 about supersmushing.
 -- Assumes nothing.
-use mathlib.Core.Path.{_≡_, refl, sym, _∙_, ap, subst}
+use mathlib.Core.Path.{_≡_, refl, sym, _∙_, subst}
 use mathlib.Core.Bool.{Bool, true, false, cond}
-use Prim.Native.Nat.{ℕ, _+_, _-_, _≤_, _<_, min, max}
+use Prim.Native.Nat.{ℕ, _≤_, _<_, min, max}
 use native.Mathlib.Omega.{arith}
 use lib.Dec.{eqb, ltb}
-use borrow.Author.Tests.{lt-ltb, le-ltb, eqb-true, ltb-true, ltb-false}
+use borrow.Author.Tests.{lt-ltb, le-ltb, eqb-true}
 use Rattle.ground.proofs.Tests.{or-elim}
-use Rattle.subchars.specs.declared.VerticalSmushing.{VerticalSmushing}
 use Rattle.subchars.specs.declared.VerticalSmushing.the-variants.{Universal, Controlled}
 use Rattle.subchars.specs.declared.VerticalLayout.{VerticalLayout}
 use Rattle.subchars.specs.declared.VerticalLayout.the-variants.{FullHeight, Fitting, Smushing}
@@ -19,7 +18,6 @@ use Rattle.lanes.specs.Blocks.{Cells}
 use Rattle.lanes.specs.Overlap.{hasBlank, furthest, fitting, smushing}
 use Rattle.lanes.proofs.Demand as lanes
 use Rattle.lanes.proofs.Demand.{Free, Furthest, Fits, Smushes, Pairing, Taken, JoinedLanes}
-use Rattle.lanes.proofs.Smushing.{furthest-passes, fitting-free, fitting-largest}
 use Rattle.blocks.specs.Block.{Block}
 use Rattle.vertical.specs.VerticalPair.{VerticalLine, setHas, merges, mergedByte, barred, otherRules, EveryVerticalRuleOf}
 use Rattle.vertical.proofs.VerticalRules.{upper-blank, lower-blank, upper-blank-merges, lower-blank-merges, upper-blank-barred, lower-blank-barred, more-rules, others-without-4096, other-rules-merge, barred-merges}

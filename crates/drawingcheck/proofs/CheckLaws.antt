@@ -1,16 +1,15 @@
 -- One code of a text more: what was chosen for it has its overlap in the trace, and what is left to do leads to the trace of the text.
 -- Assumes nothing.
-use mathlib.Core.Path.{_≡_, refl, sym, ap, _∙_, subst}
-use mathlib.Core.Bool.{Bool, true, false}
-use mathlib.Core.List.{List, [], _∷_, _++_}
-use Prim.Native.Nat.{ℕ, _+_, _-_, _≤_, _<_, min}
+use mathlib.Core.Path.{_≡_, refl, ap, _∙_, subst}
+use mathlib.Core.Bool.{true, false}
+use mathlib.Core.List.{List, [], _∷_}
+use Prim.Native.Nat.{ℕ, _+_, _-_, _≤_, _<_}
 use native.Mathlib.Omega.{arith}
 use lib.ListN.{length, drop, getD, length-append, drop-of-length-le}
-use Rattle.subchars.specs.declared.Code.{Code}
 use Rattle.subchars.specs.declared.Mode.{Mode}
 use Rattle.blocks.specs.Block.{Block}
 use Rattle.blocks.specs.Writing.{Like}
-use Rattle.figure.specs.Line.{empty, attached, overlapWith, overlapsFrom}
+use Rattle.figure.specs.Line.{attached, overlapWith}
 use Rattle.showing.specs.Scratch.{scratchLine}
 use Rattle.figure.proofs.Turning.{over-le, attached-wide}
 use Rattle.source.specs.declared.Chosen.{Chosen}
@@ -18,8 +17,8 @@ use Rattle.source.specs.declared.Chosen.the-variants as chosen
 use Rattle.source.specs.Source.{Choice, found, stoodIn, nothing, Source}
 use Rattle.source.specs.Steps.{Shows, ChosenAs}
 use Rattle.flc.specs.declared.Command.{Command}
-use Rattle.drawing.specs.Drawing.{codesOf, mappedCodes, textCodes, withChoice, charactersOf, byteChoice, lineOf, traceOf}
-use Rattle.drawing.specs.Steps.{withCharacter, Reached}
+use Rattle.drawing.specs.Drawing.{codesOf, mappedCodes, textCodes, withChoice, charactersOf, byteChoice, traceOf}
+use Rattle.drawing.specs.Steps.{withCharacter}
 use Rattle.drawing.proofs.TextLaws.{rest-more}
 use Rattle.checking.specs.declared.Tally.{Tally}
 use Rattle.checking.specs.Steps.{tallied}

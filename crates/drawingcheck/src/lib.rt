@@ -14,7 +14,7 @@ ghost use mathlib.Core.List.{List};
 ghost use Prim.Native.Nat.{ℕ, _≤_, _<_, _^_};
 ghost use lib.ListN.{length};
 ghost use Rattle.ground.specs.Area.{zeros};
-ghost use Rattle.ground.specs.Limits.{maxLineWidth, maxText, minScratch};
+ghost use Rattle.ground.specs.Limits.{maxLineWidth, minScratch};
 ghost use Rattle.flc.specs.Control as flc;
 ghost use Rattle.mapping.specs.Passing.{ControlHeld};
 ghost use Rattle.source.specs.Source.{Source};

@@ -1,19 +1,19 @@
 -- What is listed joins to the bytes, and whole records that are joined are listed.
 -- Assumes nothing.
 use mathlib.Core.Path.{_≡_, refl, sym, ap, ap₂, _∙_, subst}
-use mathlib.Core.Bool.{Bool, true, false, cond, not, _&&_, _||_, true≢false, false≢true}
+use mathlib.Core.Bool.{Bool, true, false, cond, not, _||_, false≢true}
 use mathlib.Core.List.{List, [], _∷_, _++_, append-assoc}
-use Prim.Native.Nat.{ℕ, zero, suc, _+_, _-_, _*_, _≤_, _<_}
+use Prim.Native.Nat.{ℕ, zero, suc, _-_, _≤_}
 use native.Mathlib.Omega.{arith}
 use lib.Dec.{eqb, leb}
-use lib.ListN.{length, take, drop, getD, length-append, length-drop, length-replicate, take-append-drop}
+use lib.ListN.{length, take, drop, getD, length-append, length-drop, take-append-drop}
 use lib.Seq.{take-at, drop-at, length-take-le}
 use borrow.Author.Tests.{eqb-true, ne-eqb}
 use Rattle.ground.specs.Area.{zeros}
 use Rattle.ground.specs.Runs.{all}
-use Rattle.ground.proofs.Tests.{and-left, and-right, and-left-false, clash}
+use Rattle.ground.proofs.Tests.{and-left, and-right, and-left-false}
 use Rattle.records.specs.declared.Head.{Head}
-use Rattle.records.specs.Versions.{widthLength, recordHeadLength, maxWidth}
+use Rattle.records.specs.Versions.{recordHeadLength, maxWidth}
 use Rattle.rows.specs.Rows.{legalByte}
 use Rattle.records.specs.Records.{isZero, codeIn, widthIn, rowsIn, sizeIn, goodFields, goodRecord, minusOne, Listing, ends, withRecord, listing}
 use Rattle.records.proofs.VersionLaws.{width-length-low}

@@ -2,16 +2,16 @@
 -- Assumes nothing.
 use mathlib.Core.Path.{_≡_, refl, sym, ap, ap₂, _∙_}
 use mathlib.Core.Bool.{Bool, true, false, cond}
-use mathlib.Core.List.{List, [], _∷_, _++_, append-assoc, append-nil}
+use mathlib.Core.List.{List, _∷_, _++_, append-assoc, append-nil}
 use Prim.Native.Nat.{ℕ, _+_, _-_, _≤_}
 use native.Mathlib.Omega.{arith}
-use lib.ListN.{length, take, drop, length-append}
+use lib.ListN.{length, take, drop}
 use lib.Seq.{length-take-le}
 use Rattle.ground.specs.Area.{zeros, padded}
 use Rattle.areas.specs.Laid.{laid}
 use Rattle.areas.proofs.LaidLaws.{take-laid, drop-laid, length-laid}
 use Rattle.records.specs.declared.Head.{Head}
-use Rattle.records.specs.Records.{isLive, Listing, ends, withRecord, listing}
+use Rattle.records.specs.Records.{Listing, ends, listing}
 use Rattle.records.specs.Steps.{Walkable}
 use Rattle.records.proofs.WalkLaws.{Next, recordsAt, walk-on}
 use Rattle.edits.specs.Changes.{joined, kept}

@@ -9,7 +9,7 @@ use native.Mathlib.Numerals.{add-one}
 use lib.Dec.{ltb}
 use lib.IntN.{ℤ, pos}
 use lib.ListN.{length, take, getD, length-map, List·getD-map}
-use lib.Seq.{getD-take, length-take-le, take-all}
+use lib.Seq.{length-take-le, take-all}
 use borrow.Author.Tests.{ltb-true, ltb-false}
 use Rattle.subchars.specs.declared.Code.{Code}
 use Rattle.chars.specs.declared.Entry.{Entry}

@@ -16,7 +16,6 @@ use Rattle.reader.specs.declared.Use.{Use}
 use Rattle.reader.specs.declared.Use.the-variants as use-is
 use Rattle.reader.specs.Reader.{used, lookedUp}
 use Rattle.reader.proofs.ThreeLaws.{unused-nothing}
-use Rattle.request.specs.declared.Sought.{Sought}
 use Rattle.request.specs.declared.Sought.the-variants as sought-is
 use Rattle.request.specs.Request.{inFont, sought}
 use Rattle.fontcalls.specs.declared.LookUpAnswer.the-variants.{Looked, Refused}

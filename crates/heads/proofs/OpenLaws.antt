@@ -1,26 +1,24 @@
 -- A pack that is opened: what it says, and its bytes.
 -- Assumes nothing.
-use mathlib.Core.Path.{_≡_, refl, sym, ap, ap₂, _∙_, subst}
+use mathlib.Core.Path.{_≡_, refl, sym, ap, _∙_, subst}
 use mathlib.Core.Bool.{Bool, true, false, cond, _&&_}
 use mathlib.Core.List.{List, _++_, append-assoc}
-use Prim.Native.Nat.{ℕ, _+_, _-_, _≤_, _<_}
+use Prim.Native.Nat.{ℕ, _+_, _-_, _≤_}
 use native.Mathlib.Omega.{arith}
 use lib.ListN.{length, take, drop, length-append, length-drop, length-replicate, take-append-drop}
-use lib.Seq.{length-take-le, take-at, drop-at, take-append-le, take-take}
+use lib.Seq.{length-take-le}
 use Rattle.ground.specs.Area.{zeros, padded}
-use Rattle.ground.proofs.Tests.{and-left, and-right, and-both, clash}
+use Rattle.ground.proofs.Tests.{and-left, and-right, clash}
 use Rattle.records.specs.declared.Head.{Head}
-use Rattle.records.specs.declared.Verdict.{Verdict}
 use Rattle.records.specs.declared.Verdict.the-variants.{Sound, Broken}
 use Rattle.records.specs.Versions.{headLength}
 use Rattle.records.specs.Records.{Listing, listing, noneTwice, liveCount}
 use Rattle.records.specs.Steps.{verdict}
 use Rattle.edits.specs.Changes.{joined}
-use Rattle.edits.proofs.ReadBack.{Wholes, Joins, joins, reads-back, listed}
-use Rattle.heads.specs.declared.HeadStep.the-variants.{Good, NoHead}
-use Rattle.heads.specs.declared.Opened.{Opened}
+use Rattle.edits.proofs.ReadBack.{Wholes, joins, listed}
+use Rattle.heads.specs.declared.HeadStep.the-variants.{NoHead}
 use Rattle.heads.specs.declared.Opened.the-variants.{Says, Damaged}
-use Rattle.heads.specs.Pack.{isHead, headIn, headOf, Pack, says, damaged, meant, meaning, remade, headTold, openedBy}
+use Rattle.heads.specs.Pack.{isHead, headIn, Pack, says, damaged, meant, meaning, remade, headTold, openedBy}
 use Rattle.heads.proofs.HeadLaws.{Headed, headed-of, not-headed}
 
 -- The records of a buffer whose head says a head.

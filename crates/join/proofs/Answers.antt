@@ -8,10 +8,10 @@ use Prim.Native.Nat.{ℕ, _*_, _≤_, _<_}
 use native.Mathlib.Omega.{arith}
 use lib.Dec.{ltb, leb}
 use lib.ListN.{length}
-use borrow.Author.Tests.{lt-ltb, le-ltb, ltb-true, ltb-false, leb-true, leb-false, eqb-true, eqb-false}
+use borrow.Author.Tests.{lt-ltb, le-ltb, ltb-true, ltb-false, leb-true, leb-false}
 use Rattle.ground.specs.Limits.{maxHeight, maxLineWidth, maxCharacterWidth, maxRules}
 use Rattle.ground.specs.Refusals.{areaTooSmall, lineTooWide, badShape, refusal}
-use Rattle.ground.proofs.Tests.{and-none, and-left, and-right, and-left-false, and-right-false, never-both}
+use Rattle.ground.proofs.Tests.{and-none, and-left, and-right, never-both}
 use Rattle.subchars.specs.declared.Layout.{Layout}
 use Rattle.subchars.specs.declared.Layout.the-variants.{FullWidth, Fitting, Smushing}
 use Rattle.subchars.specs.declared.Smushing.the-variants.{Universal, Controlled}

@@ -1,7 +1,7 @@
 -- The theorems of Q-6 in the words of the contracts: what a call that answers Done has done.
 -- Assumes nothing.
 use mathlib.Core.Path.{_≡_, refl, sym, ap, _∙_}
-use mathlib.Core.Bool.{Bool, true, false, cond, not, _&&_}
+use mathlib.Core.Bool.{Bool, true, false, cond}
 use mathlib.Core.List.{List}
 use Prim.Native.Nat.{ℕ, _+_, _≤_, _<_}
 use native.Mathlib.Omega.{arith}
@@ -24,13 +24,13 @@ use Rattle.records.proofs.WalkLaws.{place-has}
 use Rattle.edits.specs.Changes.{newRecord, removed, placed, kept}
 use Rattle.records.specs.Letters.{letter, noLetter}
 use Rattle.edits.proofs.WriteLaws.{length-new}
-use Rattle.heads.specs.Pack.{Pack, says, damaged, meaning, remade}
+use Rattle.heads.specs.Pack.{Pack, says, meaning, remade}
 use Rattle.pack.specs.declared.PackAnswer.the-variants as checked
 use Rattle.ground.specs.declared.refusals.Refusal.{Refusal}
 use Rattle.pack.specs.declared.EditAnswer.the-variants as edited
 use Rattle.pack.specs.declared.EditAnswer.the-variants.{Done}
 use Rattle.pack.specs.Calls.{checkTold, letterFound, Change, changed, refused, tells, after, Changes, removal, goodLetter, hasRoom, insertion, compaction}
-use Rattle.pack.proofs.CallLaws.{removed-bytes, removed-was, free-room, put-free, tail-inside, put-tail, tail-room}
+use Rattle.pack.proofs.CallLaws.{removed-bytes, removed-was, free-room, put-free, put-tail, tail-room}
 use Rattle.pack.proofs.Theorems.{remove-accepted, put-accepted, compact-accepted, compact-long, removed-gone, removed-others, put-found, put-found-others, compact-all}
 
 -- "Check" accepts what says a head and records.

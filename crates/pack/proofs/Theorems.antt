@@ -2,7 +2,7 @@
 -- Assumes nothing.
 use mathlib.Core.Path.{_≡_, refl, sym, ap, ap₂, _∙_, subst}
 use mathlib.Core.Bool.{Bool, true, false, cond, not, _&&_, _||_}
-use mathlib.Core.List.{List, [], _∷_, _++_, append-assoc}
+use mathlib.Core.List.{List, _++_, append-assoc}
 use Prim.Native.Nat.{ℕ, _+_, _-_, _*_, _≤_, _<_}
 use native.Mathlib.Omega.{arith}
 use lib.Dec.{eqb, leb}
@@ -11,30 +11,30 @@ use lib.Seq.{take-append-le, take-take, drop-at}
 use borrow.Author.Tests.{ne-eqb, eqb-true, eqb-false, eq-eqb, leb-true}
 use Rattle.ground.specs.Area.{zeros, padded}
 use Rattle.ground.specs.Runs.{all}
-use Rattle.ground.proofs.Tests.{and-left, and-right, and-both, not-true-false}
+use Rattle.ground.proofs.Tests.{and-left, and-right}
 use Rattle.records.specs.declared.Head.{Head}
 use Rattle.records.specs.declared.Place.{Place}
 use Rattle.records.specs.declared.Place.the-variants.{At, Nowhere}
 use Rattle.records.specs.Versions.{headLength, recordHeadLength, maxWidth}
 use Rattle.records.proofs.VersionLaws.{head-length-low}
 use Rattle.rows.specs.Rows.{legalByte}
-use Rattle.records.specs.Records.{minusOne, isLive, codeIn, widthIn, rowsIn, isLiveOf, hasLive, noneTwice, Listing, listing}
+use Rattle.records.specs.Records.{minusOne, isLiveOf, hasLive, noneTwice, listing}
 use Rattle.records.specs.Places.{placeIn}
 use Rattle.edits.specs.Changes.{joined, newRecord, removed, placed, hasFree, kept}
 use Rattle.records.specs.Letters.{Letter, letter, noLetter, letterIn}
 use Rattle.edits.proofs.WriteLaws.{length-new}
-use Rattle.edits.proofs.ReadBack.{Wholes, reads-back, listed}
+use Rattle.edits.proofs.ReadBack.{Wholes, reads-back}
 use Rattle.edits.proofs.RecordLaws.{new-live, new-code, new-width, new-rows, whole-new}
-use Rattle.edits.proofs.ChangeLaws.{wholes-removed, wholes-placed, wholes-kept, once-removed, once-placed, once-kept, has-not, of-live, letter-none, letter-removed, letter-kept, letter-placed, letter-new}
+use Rattle.edits.proofs.ChangeLaws.{wholes-removed, wholes-placed, wholes-kept, once-removed, once-placed, once-kept, has-not, letter-none, letter-removed, letter-kept, letter-placed, letter-new}
 use Rattle.edits.proofs.PlaceLaws.{readAt, removed-long, kept-long, placed-long, kept-none-free}
 use Rattle.ground.specs.Refusals.{refusal, badShape}
 use Rattle.pack.specs.declared.Located.{Located}
 use Rattle.pack.specs.declared.Located.the-variants as located
-use Rattle.heads.specs.Pack.{isHead, headOf, headIn, Pack, says, damaged, meaning, remade}
+use Rattle.heads.specs.Pack.{isHead, headOf, Pack, says, meaning, remade}
 use Rattle.pack.specs.Calls.{locatedAt, locatedIn, foundAt, findTold, partOf, rowsTold, letterOf, letterFound, goodLetter, hasRoom}
 use Rattle.heads.proofs.FindLaws.{letter-there}
 use Rattle.heads.proofs.HeadLaws.{Headed, headed-of}
-use Rattle.heads.proofs.OpenLaws.{Opens, opens-of, said, pack-wholes, pack-bytes, head-size, pack-fits}
+use Rattle.heads.proofs.OpenLaws.{Opens, opens-of, said, pack-wholes, head-size, pack-fits}
 
 -- Whole records, no code twice, that fit: with the same head they are a pack that says them.
 module _ (s : List ℕ) (f : Head) (rs : List (List ℕ)) (m : meaning s ≡ says f rs) where

@@ -31,7 +31,7 @@ use Rattle.source.specs.Source.{packSource}
 use Rattle.source.specs.Counting.{countsOf}
 use Rattle.drawing.specs.declared.DrawAnswer.{DrawAnswer}
 use Rattle.drawing.specs.declared.DrawAnswer.the-variants.{Drawn, Refused}
-use Rattle.drawing.specs.Drawing.{textCodes, lineOf, Lined, lined, unlined, linedText, linedFrom, withCounts, linedAnswer}
+use Rattle.drawing.specs.Drawing.{textCodes, lineOf, Lined, unlined, linedFrom, withCounts, linedAnswer}
 use Rattle.drawing.proofs.OutputLaws.{source-long, source-lined}
 use Rattle.packdrawing.specs.PackDrawing.{packMode, packLined}
 use Rattle.packdrawing.proofs.PackCases as cases

@@ -13,10 +13,9 @@ use Rattle.ground.proofs.Tests.{and-left, and-right}
 use Rattle.ground.proofs.Runs.{all-not}
 use Rattle.ground.specs.Runs.{all}
 use Rattle.records.specs.declared.Head.{Head}
-use Rattle.records.specs.declared.Scan.{Scan}
 use Rattle.records.specs.declared.Scan.the-variants.{Record, End, Damaged}
 use Rattle.records.specs.declared.Skim.the-variants as skimmed
-use Rattle.records.specs.Versions.{headLength, widthLength, recordHeadLength, maxWidth}
+use Rattle.records.specs.Versions.{widthLength, recordHeadLength, maxWidth}
 use Rattle.rows.specs.Rows.{legalByte}
 use Rattle.records.specs.Records.{isZero, isLive, codeIn, widthIn, rowsIn, sizeIn, goodFields, goodRecord, minusOne, listing}
 use Rattle.records.specs.Steps.{scanOf, skimOf}

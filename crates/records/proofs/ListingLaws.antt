@@ -1,23 +1,22 @@
 -- A listing is its first record and then what is listed behind it.
 -- Assumes nothing.
 use mathlib.Core.Path.{_≡_, refl, sym, ap, _∙_, subst}
-use mathlib.Core.Bool.{Bool, true, false, cond, not, _&&_, _||_}
+use mathlib.Core.Bool.{Bool, true, false, cond, _&&_}
 use mathlib.Core.List.{List, [], _∷_, _++_}
 use Prim.Native.Nat.{ℕ, zero, suc, _+_, _-_, _*_, _≤_, _<_}
 use native.Mathlib.Omega.{arith}
 use lib.Dec.{eqb, leb}
 use lib.ListN.{length, take, drop, getD, take-append-drop, length-drop}
-use lib.Seq.{take-append-le, drop-append-le, drop-drop, length-take-le}
+use lib.Seq.{take-append-le, drop-append-le, length-take-le}
 use lib.ListN.{List·getD-append}
 use borrow.Author.Tests.{leb-true, le-leb}
 use Rattle.ground.specs.Runs.{all}
 use Rattle.ground.proofs.Tests.{and-left, and-right, and-both, clash}
 use Rattle.areas.specs.Numbers.{numberOf}
 use Rattle.records.specs.declared.Head.{Head}
-use Rattle.records.specs.declared.Scan.{Scan}
 use Rattle.records.specs.declared.Scan.the-variants.{Record, End, Damaged}
 use Rattle.records.specs.declared.Skim.the-variants as skimmed
-use Rattle.records.specs.Versions.{widthLength, recordHeadLength, maxWidth}
+use Rattle.records.specs.Versions.{widthLength, recordHeadLength}
 use Rattle.rows.specs.Rows.{legalByte}
 use Rattle.records.specs.Records.{isZero, isLive, codeIn, widthIn, rowsIn, sizeIn, goodFields, goodRecord, Listing, ends, withRecord, recordsFrom, listing}
 use Rattle.records.specs.Steps.{scanOf, skimOf}

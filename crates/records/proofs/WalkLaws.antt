@@ -1,9 +1,9 @@
 -- A walk over the records of a pack, one record at a time.
 -- Assumes nothing.
-use mathlib.Core.Path.{_≡_, refl, sym, ap, _∙_, subst}
+use mathlib.Core.Path.{_≡_, refl, sym, ap, _∙_}
 use mathlib.Core.Bool.{Bool, true, false, cond, not, _&&_, _||_}
 use mathlib.Core.List.{List, [], _∷_}
-use Prim.Native.Nat.{ℕ, zero, suc, _+_, _-_, _*_, _≤_, _<_}
+use Prim.Native.Nat.{ℕ, _+_, _-_, _*_, _≤_, _<_}
 use native.Mathlib.Omega.{arith}
 use native.Mathlib.Nat.{add-zero, zero-add, add-assoc}
 use lib.Dec.{eqb}
@@ -12,7 +12,6 @@ use lib.Seq.{drop-drop}
 use Rattle.ground.proofs.Runs.{rest-is}
 use Rattle.ground.proofs.Tests.{clash}
 use Rattle.records.specs.declared.Head.{Head}
-use Rattle.records.specs.declared.Scan.{Scan}
 use Rattle.records.specs.declared.Scan.the-variants as scanned
 use Rattle.records.specs.declared.Skim.the-variants as skimmed
 use Rattle.records.specs.declared.Place.{Place}
@@ -23,13 +22,12 @@ use Rattle.records.specs.declared.Wanted.{Wanted}
 use Rattle.records.specs.declared.Wanted.the-variants.{Live, Free}
 use Rattle.records.specs.declared.Met.{Met}
 use Rattle.records.specs.declared.Met.the-variants.{At, End}
-use Rattle.records.specs.declared.Verdict.{Verdict}
 use Rattle.records.specs.declared.Verdict.the-variants.{Sound, Broken}
 use Rattle.records.specs.Versions.{recordHeadLength}
 use Rattle.records.specs.Records.{isLive, codeIn, widthIn, Listing, ends, withRecord, listing, isLiveOf, hasLive, noneTwice, liveCount, isFreeOf}
 use Rattle.records.specs.Places.{placeIn, isPlace, spotIn}
 use Rattle.records.specs.Steps.{scanOf, skimOf, Walkable, isWanted, metIn, counted, verdict}
-use Rattle.records.proofs.ListingLaws.{Stands, scan-record, scan-end, scan-damaged, skim-scan, skim-scan-end}
+use Rattle.records.proofs.ListingLaws.{scan-record, scan-end, scan-damaged, skim-scan, skim-scan-end}
 
 -- What the records from a place on are.
 abbrev pub recordsAt : Head → List ℕ → ℕ → List (List ℕ)

@@ -5,18 +5,12 @@ use mathlib.Core.Bool.{Bool, true, false}
 use mathlib.Core.List.{List}
 use Prim.Native.Nat.{ℕ}
 use lib.IntN.{ℤ, pos}
-use lib.ListN.{take}
-use Rattle.ground.specs.Limits.{maxCharacters}
-use Rattle.ground.proofs.Halves.{partBehind, part-behind}
 use Rattle.subchars.specs.declared.Code.{Code}
-use Rattle.header.specs.declared.Header.{Header}
 use Rattle.chars.specs.declared.Entry.{Entry}
 use Rattle.chars.specs.Codes.{code}
-use Rattle.index.specs.Index.{CharacterRoom, Lists}
-use Rattle.index.specs.Latest.{smallCodes, Latest}
 use Rattle.reader.specs.declared.Use.{Use}
 use Rattle.reader.specs.declared.Use.the-variants as last
-use Rattle.reader.specs.Reader.{entryAt, lastOf, whichOf, lookedUp}
+use Rattle.reader.specs.Reader.{entryAt, lastOf}
 use Rattle.reader.proofs.ThreeLaws.{last-same}
 use Rattle.fontlists.specs.declared.two.Which.{Which}
 use Rattle.fontlists.specs.declared.two.Which.the-variants.{First, Second}
@@ -26,9 +20,7 @@ use Rattle.fontlists.specs.TwoFonts.{firstTry, lookedUpInTwo, bytesIn}
 use Rattle.source.specs.Source.{nothing, Source, characterOf, choiceOfTwo, twoSource}
 use Rattle.source.specs.Counting.{isStoodIn, isNothing, StandsIn}
 use Rattle.source.specs.Held.{TwoGives}
-use Rattle.fontlists.specs.Held.{TwoHeld}
 use Rattle.source.specs.Steps.{Stands, asOwn}
-use Rattle.fontlists.specs.Steps.{eitherOf}
 use Rattle.source.proofs.CountLaws.{none-of}
 use Rattle.source.proofs.CharacterLaws.{entry-stands}
 

@@ -4,7 +4,6 @@ mod two;
 
 use chars::Entry;
 use fontlists::two::Which;
-use index::latest;
 use lines::Cursor;
 use lines::LineStep;
 use reader::Use;

@@ -1,9 +1,9 @@
 -- Blocks that are alike are stacked alike; and what is known of a stack that is put out is known of every stack like it.
 -- Assumes nothing.
-use mathlib.Core.Path.{_≡_, refl, sym, _∙_, ap, ap₂, subst}
+use mathlib.Core.Path.{_≡_, refl, _∙_, ap, ap₂, subst}
 use mathlib.Core.Bool.{cond}
 use mathlib.Core.List.{List}
-use Prim.Native.Nat.{ℕ, _+_, _-_, _*_, _≤_, max}
+use Prim.Native.Nat.{ℕ, _+_, _-_, _*_, max}
 use native.Mathlib.Omega.{arith}
 use native.Mathlib.Decide.{decLt}
 use lib.Dec.{ltb}
@@ -21,7 +21,6 @@ use Rattle.blocks.specs.Block.{Block, exactBlock, rowsOf}
 use Rattle.blocks.specs.Writing.{Like}
 use Rattle.blocks.proofs.Rows.{rows-cong}
 use Rattle.vertical.specs.VerticalPair.{VerticalLine, setHas, merges, mergedByte, barred, otherRules}
-use Rattle.columns.specs.declared.Placed.{Placed}
 use Rattle.stack.specs.declared.StackAnswer.{StackAnswer}
 use Rattle.stack.specs.declared.StackAnswer.the-variants.{Stacked}
 use Rattle.columns.specs.Stack.{upright, supersmushing, columnsOverlap, wider, stackOverlap, stackedAt, Stack, stacked}

@@ -4,7 +4,7 @@ use subchars::SubCharacter;
 use subchars::VerticalLayout;
 ghost use mathlib.Core.Path.{_≡_};
 ghost use mathlib.Core.List.{_++_};
-ghost use Prim.Native.Nat.{ℕ, _+_, _-_, _*_, _<_, _≤_, max};
+ghost use Prim.Native.Nat.{ℕ, _+_, _-_, _*_, _<_, _≤_};
 ghost use lib.ListN.{length, take};
 ghost use Rattle.ground.specs.Area.{values};
 ghost use Rattle.ground.specs.Limits.{maxLineWidth};

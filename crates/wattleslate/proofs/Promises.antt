@@ -125,7 +125,7 @@ use Rattle.commands.specs.Fields.{field, endsField, goodRanges}
 use Rattle.flc.specs.declared.Command.{Command}
 use Rattle.flc.specs.Control as flc
 use Rattle.flc.specs.Lists.{CommandLists, commandLists, listsOf}
-use Rattle.mapping.specs.Mapping.{fits, newCode, throughStage, mapStages}
+use Rattle.mapping.specs.Mapping.{fits, newCode, throughStage}
 use Rattle.controlcalls.specs.ControlCall.{roomOf, controlReading}
 use Rattle.controlcalls.proofs.LentLaws as lent-lists
 use Rattle.flc.proofs.RefusalLaws as controls
@@ -196,7 +196,6 @@ use Rattle.reader.specs.Reader.{lastOf}
 use Rattle.source.specs.Source.{twoSource}
 use Rattle.drawing.specs.Drawing.{modeOf}
 use Rattle.request.specs.Request.{rowRequest}
-use Rattle.twofonts.specs.declared.RequestedOfTwo.{RequestedOfTwo}
 use Rattle.twofonts.specs.declared.RequestedOfTwo.the-variants as two-row-is
 use Rattle.twofonts.specs.Fonts.{alike}
 use Rattle.twofonts.specs.RowOfTwo.{rowOfTwo}

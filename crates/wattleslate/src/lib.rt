@@ -39,7 +39,6 @@ pub use twofonts::RequestedOfTwo;
 pub use twolines::LinesAnswer;
 pub use wrapping::WrapAnswer;
 ghost use mathlib.Core.Path.{_≡_};
-ghost use mathlib.Core.List.{List};
 ghost use lib.ListN.{length};
 ghost use Rattle.ground.specs.Area.{zeros};
 ghost use Rattle.join.specs.JoinCall.{JoinGives};

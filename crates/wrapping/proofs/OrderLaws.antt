@@ -27,7 +27,6 @@ use Rattle.drawing.specs.Drawing.{textCodes, modeOf, Lined, lined, unlined, lin
 use Rattle.wrapping.specs.declared.WrapAnswer.{WrapAnswer}
 use Rattle.wrapping.specs.declared.WrapAnswer.the-variants.{Wrapped, Refused}
 use Rattle.spans.specs.declared.LinesPut.{LinesPut}
-use Rattle.spans.specs.declared.LinesPut.the-variants as put
 use Rattle.breaks.specs.Breaking.{Span}
 use Rattle.spans.specs.Spans.{lineBy, firstWider}
 use Rattle.wrapping.specs.Wrapping.{Wrap, wrapped, unwrapped, wrapLines, wrapText, badLimit, wrapTested, wrapBy, wrapOf, drawWrapped, wrapIn, wrapAnswer, wrapSpans, wrapBytes, WrapOut}

@@ -1,7 +1,7 @@
 -- A text drawn in lines that are at most a limit wide: document 02, Q-4. "Given a column limit from 1 to 1,000, break the text at blanks."
 -- Assumes nothing.
 use mathlib.Core.Path.{_≡_}
-use Prim.Native.Nat.{ℕ, _-_}
+use Prim.Native.Nat.{ℕ}
 use mathlib.Core.Bool.{Bool, cond, _||_}
 use mathlib.Core.List.{List, [], map}
 use lib.Dec.{ltb}
@@ -12,7 +12,6 @@ use Rattle.ground.specs.Refusals.{refusal, areaTooSmall, textTooLong, badShape,
 use Rattle.ground.specs.declared.refusals.Refusal.{Refusal}
 use Rattle.subchars.specs.declared.Mode.{Mode}
 use Rattle.blocks.specs.Block.{Block}
-use Rattle.showing.specs.Output.{shown}
 use Rattle.font.specs.Font as font
 use Rattle.source.specs.declared.Counts.{Counts}
 use Rattle.source.specs.Source.{Source, fontSource}

@@ -1,15 +1,13 @@
 -- `heads::open` meets its contract.
 -- Assumes nothing.
-use mathlib.Core.Path.{_≡_, refl, sym, ap, _∙_, subst}
-use mathlib.Core.Bool.{Bool, not, _&&_}
-use mathlib.Core.List.{List}
-use Prim.Native.Nat.{ℕ, _+_, _-_, _*_, _≤_, _<_}
+use mathlib.Core.Path.{sym, ap, _∙_}
+use Prim.Native.Nat.{ℕ}
 use native.Mathlib.Omega.{arith}
 use borrow.Author.Needs.{needs}
-use lib.ListN.{length, take, drop, getD}
+use lib.ListN.{drop}
 use Rattle.records.specs.Records.{listing}
 use Rattle.records.specs.Steps.{verdict}
-use Rattle.heads.proofs.HeadLaws.{Headed, headed-read}
+use Rattle.heads.proofs.HeadLaws.{headed-read}
 use Rattle.heads.proofs.OpenLaws.{opened-sound, opened-broken, opened-none}
 use Rattle.heads.proofs.open.Statement.{statement}
 use Rattle.heads.proofs.open.Tie as tie

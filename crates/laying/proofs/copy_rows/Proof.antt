@@ -1,10 +1,9 @@
 -- `laying::copy_rows` meets its contract. The invariant: the rows passed are copied, those to come are as they were.
 -- Assumes nothing.
 use mathlib.Core.Path.{_≡_, refl}
-use Prim.Native.Nat.{ℕ, _+_, _-_, _*_, _≤_}
+use Prim.Native.Nat.{ℕ, _+_, _-_, _≤_}
 use native.Mathlib.Omega.{arith}
 use lib.ListN.{length, getD}
-use Rattle.ground.specs.Limits.{maxLineWidth}
 use Rattle.blocks.specs.Writing.{fromOn}
 use Rattle.laying.specs.Laying.{StoredTo}
 use Rattle.laying.proofs.Laying.{none-stored, row-stored}

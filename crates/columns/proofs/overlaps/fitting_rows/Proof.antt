@@ -1,14 +1,12 @@
 -- `columns::overlaps::fitting_rows` meets its contract: the columns of a block are lanes of its slice.
 -- Assumes nothing.
-use mathlib.Core.Path.{_∙_, ap, sym, subst}
-use mathlib.Core.List.{List}
+use mathlib.Core.Path.{_∙_, ap}
 use Prim.Native.Nat.{ℕ}
 use native.Mathlib.Omega.{arith}
 use borrow.Author.Needs.{needs}
 use Rattle.lanes.specs.Blocks.{Cells, cellsOf, blankedCells}
 use Rattle.lanes.specs.Overlap.{fitting}
 use Rattle.lanes.proofs.Agreeing.{fitting-cong}
-use Rattle.columns.specs.declared.Placed.{Placed}
 use Rattle.columns.specs.Stack.{upright}
 use Rattle.columns.specs.Placing.{placedBlock}
 use Rattle.columns.proofs.Columns.{viewOf, columns-inside, columns-seen}

@@ -2,7 +2,7 @@
 -- Assumes nothing.
 use mathlib.Core.Bool.{Bool, true}
 use mathlib.Core.Path.{_≡_, _∙_, sym, ap}
-use Prim.Native.Nat.{ℕ, _+_, _-_, _*_, _≤_, _<_, min}
+use Prim.Native.Nat.{ℕ, _+_, _-_, _*_, _≤_, min}
 use native.Mathlib.Omega.{arith}
 use lib.ListN.{length}
 use borrow.Author.Needs.{needs}
@@ -10,7 +10,6 @@ use borrow.Author.Tests.{not-true, not-false}
 use Rattle.ground.specs.Count.{every}
 use Rattle.ground.proofs.Counting.{every-none, every-next, every-stop}
 use Rattle.lanes.specs.Blocks.{Cells}
-use Rattle.lanes.specs.Overlap.{facing}
 use Rattle.vertical.specs.VerticalPair.{passing}
 use Rattle.columns.specs.Stack.{upright}
 use Rattle.columns.specs.Placing.{placedBlock}

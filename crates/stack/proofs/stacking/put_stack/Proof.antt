@@ -1,14 +1,12 @@
 -- `stack::stacking::put_stack` meets its contract.
 -- Assumes nothing.
-use mathlib.Core.Path.{_≡_, _∙_}
-use Prim.Native.Nat.{ℕ, _≤_, _+_, _-_, _*_, min}
+use Prim.Native.Nat.{ℕ, _≤_, _+_, _-_, min}
 use native.Mathlib.Omega.{arith}
 use lib.ListN.{length}
 use borrow.Author.Needs.{needs}
 use Rattle.ground.specs.Limits.{maxLineWidth}
 use Rattle.blocks.specs.Block.{Block}
 use Rattle.blocks.proofs.Rows.{small}
-use Rattle.columns.specs.Stack.{stackOverlap}
 use Rattle.columns.specs.Placing.{placedBlock}
 use Rattle.columns.proofs.Demand.{overlap-smaller}
 use Rattle.stack.proofs.StackCases.{too-high, no-room, done}

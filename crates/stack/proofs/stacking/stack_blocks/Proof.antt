@@ -7,7 +7,7 @@ use borrow.Author.Needs.{needs}
 use borrow.Author.Tests.{not-true, not-false}
 use Rattle.blocks.specs.Block.{exactBlock}
 use Rattle.columns.specs.Stack.{stacked}
-use Rattle.columns.specs.Placing.{placedBlock, PlacedIn}
+use Rattle.columns.specs.Placing.{placedBlock}
 use Rattle.stack.specs.StackCall.{goodStack}
 use Rattle.stack.proofs.Likeness.{exact-like, stacked-like, put-like}
 use Rattle.stack.proofs.GoodStack.{exactly, both-placed}

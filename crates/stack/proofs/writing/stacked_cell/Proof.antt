@@ -1,7 +1,6 @@
 -- `stack::writing::stacked_cell` meets its contract.
 -- Assumes nothing.
 use mathlib.Core.Path.{_∙_, sym, ap₂}
-use native.Mathlib.Omega.{arith}
 use borrow.Author.Needs.{needs}
 use Rattle.vertical.specs.VerticalPair.{mergedByte}
 use Rattle.columns.specs.Placing.{placedBlock}
