@@ -26,7 +26,7 @@ use Rattle.records.specs.Records.{minusOne, isLive, hasLive, liveCount}
 use Rattle.records.specs.Places.{placeIn}
 use Rattle.records.proofs.VersionLaws.{head-length-low}
 use Rattle.records.proofs.ListingLaws.{fine}
-use Rattle.edits.specs.Changes.{joined}
+use Rattle.ground.specs.Runs.{joined}
 use Rattle.edits.proofs.ReadBack.{Wholes, none, more}
 use Rattle.heads.specs.Pack.{Pack, says, damaged, meaning}
 use Rattle.heads.proofs.FindLaws.{some, low, short, place-in}

@@ -14,7 +14,7 @@ ghost use Rattle.ground.specs.Limits.{maxLineWidth};
 ghost use Rattle.subchars.specs.Hardblank.{blanked};
 ghost use Rattle.lanes.specs.Overlap.{facing, furthest, fitting, smushing};
 ghost use Rattle.blocks.specs.Writing.{fromOn, RowAfterRow};
-ghost use Rattle.vertical.specs.VerticalPair.{passing};
+ghost use Rattle.vertical.specs.VerticalPair.{passesBy};
 ghost use Rattle.columns.specs.Stack.{upright, supersmushing, stackOverlap};
 ghost use Rattle.columns.specs.Placing.{placedBlock, PlacedIn};
 
@@ -64,7 +64,7 @@ fn row_passes(
     n: usize,
 ) -> bool
     requires { ⌜ (a + n ≤ length (now upper)) × (b + n ≤ length (now lower)) ⌝ }
-    ensures { λ t. ⌜ t ≡ every (λ (c : ℕ). passing test (blanked (hardblank .0) (fromOn (now (upper .entry)) a c)) (blanked (hardblank .0) (fromOn (now (lower .entry)) b c))) n ⌝ }
+    ensures { λ t. ⌜ t ≡ every (λ (c : ℕ). passesBy test (blanked (hardblank .0) (fromOn (now (upper .entry)) a c)) (blanked (hardblank .0) (fromOn (now (lower .entry)) b c))) n ⌝ }
 {
     let mut c: usize = 0;
     while c < n {
@@ -91,7 +91,7 @@ fn rows_pass(
     requires { ⌜ PlacedIn (now upper) u ⌝ }
     requires { ⌜ PlacedIn (now lower) l ⌝ }
     requires { ⌜ (o ≤ u .height) × (o ≤ l .height) ⌝ }
-    ensures { λ t. ⌜ t ≡ facing (passing test) (min (u .width) (l .width)) (u .height) (upright (hardblank .0) (placedBlock (now (upper .entry)) u)) (upright (hardblank .0) (placedBlock (now (lower .entry)) l)) o ⌝ }
+    ensures { λ t. ⌜ t ≡ facing (passesBy test) (min (u .width) (l .width)) (u .height) (upright (hardblank .0) (placedBlock (now (upper .entry)) u)) (upright (hardblank .0) (placedBlock (now (lower .entry)) l)) o ⌝ }
 {
     let w = ground::smaller(u.width, l.width);
     let first = u.height - o;
@@ -118,7 +118,7 @@ fn smushing_rows(
 ) -> usize
     requires { ⌜ PlacedIn (now upper) u ⌝ }
     requires { ⌜ PlacedIn (now lower) l ⌝ }
-    ensures { λ o. ⌜ o ≡ smushing (passing test) (min (u .width) (l .width)) (u .height) (l .height) (upright (hardblank .0) (placedBlock (now (upper .entry)) u)) (upright (hardblank .0) (placedBlock (now (lower .entry)) l)) ⌝ }
+    ensures { λ o. ⌜ o ≡ smushing (passesBy test) (min (u .width) (l .width)) (u .height) (l .height) (upright (hardblank .0) (placedBlock (now (upper .entry)) u)) (upright (hardblank .0) (placedBlock (now (lower .entry)) l)) ⌝ }
 {
     let f = fitting_rows(hardblank, upper, u, lower, l);
     let most = ground::smaller(u.height, l.height);
@@ -141,7 +141,7 @@ fn furthest_rows(
 ) -> usize
     requires { ⌜ PlacedIn (now upper) u ⌝ }
     requires { ⌜ PlacedIn (now lower) l ⌝ }
-    ensures { λ o. ⌜ o ≡ furthest (passing test) (min (u .width) (l .width)) (u .height) (l .height) (upright (hardblank .0) (placedBlock (now (upper .entry)) u)) (upright (hardblank .0) (placedBlock (now (lower .entry)) l)) ⌝ }
+    ensures { λ o. ⌜ o ≡ furthest (passesBy test) (min (u .width) (l .width)) (u .height) (l .height) (upright (hardblank .0) (placedBlock (now (upper .entry)) u)) (upright (hardblank .0) (placedBlock (now (lower .entry)) l)) ⌝ }
 {
     let most = ground::smaller(u.height, l.height);
     let mut o: usize = 0;

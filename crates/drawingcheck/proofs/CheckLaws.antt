@@ -23,7 +23,7 @@ use Rattle.drawing.proofs.TextLaws.{rest-more}
 use Rattle.checking.specs.declared.Tally.{Tally}
 use Rattle.checking.specs.Steps.{tallied}
 use Rattle.checking.proofs.TraceLaws.{TraceToward, trace-first, trace-next, trace-same, trace-end}
-use Rattle.drawingcheck.specs.Steps.{Grows, withChosen}
+use Rattle.drawingcheck.specs.Steps.{GrowsBy, withChosen}
 
 -- A character b that is shown m wide, joined to a line of n columns, makes it one of w: the overlap is what both widths have more.
 module _ (y : Mode) (h : ℕ) (s at : List ℕ) (line line′ b : Block) (m : ℕ) (so : Shows s at m h b) (like : Like h line′ (attached y h line b)) where
@@ -34,7 +34,7 @@ module _ (y : Mode) (h : ℕ) (s at : List ℕ) (line line′ b : Block) (m : �
   wide-enough = omega (arith, so .like .width, like .width, attached-wide y h line b)
 
 module _ (y : Mode) (h : ℕ) (s at : List ℕ) (line line′ : Block) where
-  pub chosen-grows : (r : Chosen) (x : Choice) → ChosenAs s at h r x → Like h line′ (withCharacter y h x line) → Grows r (line .width) (line′ .width)
+  pub chosen-grows : (r : Chosen) (x : Choice) → ChosenAs s at h r x → Like h line′ (withCharacter y h x line) → GrowsBy r (line .width) (line′ .width)
   chosen-grows (chosen.Character m true) (found b) z l = (wide-enough y h s at line line′ b m z l, z .narrow)
   chosen-grows (chosen.Character m true) (stoodIn b) z l = absurd z
   chosen-grows (chosen.Character m true) nothing z l = absurd z
@@ -88,7 +88,7 @@ module _ (y : Mode) (h : ℕ) (source : Source) (cs : List Command) (k : ℕ) (t
 
     -- one byte more, for which r was chosen in bytes s; the line is then w wide
     module _ (u : i < length text) (s at : List ℕ) (r : Chosen) (z : ChosenAs s at h r (byteChoice source cs k (getD text i 0))) (w : ℕ) (area′ : List ℕ) (like : Like h (scratchLine (y .direction) w area′) (withCharacter y h (byteChoice source cs k (getD text i 0)) (scratchLine (y .direction) n area))) where
-      pub traced-grows : Grows r n w
+      pub traced-grows : GrowsBy r n w
       traced-grows = chosen-grows y h s at (scratchLine (y .direction) n area) (scratchLine (y .direction) w area′) r (byteChoice source cs k (getD text i 0)) z like
 
       pub traced-next : (tally′ : Tally) → ((trace : List ℕ) → tally ≡ tallied overlaps trace → tally′ ≡ tallied overlaps (withChosen r n w trace)) → Traced tally′ area′ w (i + 1)

@@ -23,7 +23,7 @@ ghost use Rattle.drawing.specs.Drawing.{textCodes};
 ghost use Rattle.bothfiles.specs.Held.{FilesHeld};
 ghost use Rattle.checking.specs.Steps.{tallied};
 ghost use Rattle.drawingcheck.specs.CheckDrawing.{checkedFrom, checkedOf, drawingChecked};
-ghost use Rattle.drawingcheck.specs.Steps.{Grows, withChosen, CodesDrawn};
+ghost use Rattle.drawingcheck.specs.Steps.{GrowsBy, withChosen, CodesDrawn};
 
 // A text that was drawn for a check: the width of its line, and what is known of the list of overlaps.
 pub struct TextChecked {
@@ -33,7 +33,7 @@ pub struct TextChecked {
 
 // What is known of a list of overlaps with what was chosen for a code, which made a line of n columns one of w.
 fn with_chosen(tally: Tally, chosen: Chosen, n: usize, w: usize, overlaps: &[usize]) -> Tally
-    requires { ⌜ (tally .drawn < 2 ^ 63) × (n ≤ maxLineWidth) × Grows chosen n w ⌝ }
+    requires { ⌜ (tally .drawn < 2 ^ 63) × (n ≤ maxLineWidth) × GrowsBy chosen n w ⌝ }
     ensures { λ r. ⌜ ((trace : List ℕ) → tally ≡ tallied (now (overlaps .entry)) trace → r ≡ tallied (now (overlaps .entry)) (withChosen chosen n w trace)) ⌝ }
 {
     match chosen {

@@ -18,7 +18,7 @@ ghost use Rattle.records.specs.Codes.{bitsOf};
 ghost use Rattle.records.specs.Versions.{headLength};
 ghost use Rattle.records.specs.Places.{placeIn};
 ghost use Rattle.heads.specs.Pack.{says, meaning};
-ghost use Rattle.letters.specs.Held.{heldAt, Noted, Held, LettersHeld};
+ghost use Rattle.letters.specs.Held.{heldAt, LetterNoted, Held, LettersHeld};
 
 // The place that two entries of the lists hold.
 fn held_at(start: usize, width: usize) -> Place
@@ -40,7 +40,7 @@ fn note(
     width: usize,
 )
     requires { ⌜ (smallCodes ≤ length (now starts)) × (smallCodes ≤ length (now widths)) ⌝ }
-    ensures { λ _. ⌜ Noted live code at width (now (starts .entry)) (now (widths .entry)) (now (starts .exit)) (now (widths .exit)) ⌝ }
+    ensures { λ _. ⌜ LetterNoted live code at width (now (starts .entry)) (now (widths .entry)) (now (starts .exit)) (now (widths .exit)) ⌝ }
 {
     if !live {
         return;

@@ -1,4 +1,4 @@
-// The overlap of two blocks side by side, above the overlaps of crate lanes and the pair decision of crate subchars.
+// The overlap of two blocks side by side, above the overlaps of crate lanes and the pair decision of crate pairs.
 use lanes::View;
 use subchars::Layout;
 use subchars::Mode;

@@ -11,7 +11,7 @@ use lib.ListN.{length, take, drop, getD, set, length-set, length-append, length-
 use denote.Ref.{RefT, ptr}
 use borrow.Author.Tests.{eq-eqb, ne-eqb, le-leb, lt-leb, leb-true, eqb-true}
 use Rattle.ground.specs.Area.{zeros, padded}
-use Rattle.ground.specs.Runs.{all}
+use Rattle.ground.specs.Runs.{all, joined}
 use Rattle.ground.specs.Refusals.{refusal, badShape, damagedPack, codePresent, codeAbsent, noRoom}
 use Rattle.ground.specs.declared.refusals.Refusal.{Refusal}
 use Rattle.ground.proofs.Tests.{and-left, and-right, clash}
@@ -27,7 +27,7 @@ use Rattle.records.specs.Records.{minusOne, hasLive}
 use Rattle.records.specs.Places.{placeIn, isPlace, spotIn}
 use Rattle.records.proofs.VersionLaws.{max-width-high}
 use Rattle.records.proofs.WalkLaws.{recordsAt, place-has}
-use Rattle.edits.specs.Changes.{joined, newRecord, removed, placed, kept}
+use Rattle.edits.specs.Changes.{newRecord, removed, placed, kept}
 use Rattle.edits.proofs.WriteLaws.{length-new}
 use Rattle.edits.proofs.PlaceLaws.{place-removed, place-live, spot-placed, free-inside, spot-free, AtTail, spot-tail}
 use Rattle.heads.specs.declared.Opened.the-variants.{Says, Damaged}
@@ -37,7 +37,7 @@ use Rattle.pack.specs.declared.Located.{Located}
 use Rattle.pack.specs.declared.Located.the-variants as located
 use Rattle.pack.specs.declared.FindAnswer.the-variants as sought
 use Rattle.pack.specs.declared.EditAnswer.the-variants.{Done, Refused}
-use Rattle.pack.specs.Calls.{checkTold, locatedAt, locatedIn, foundAt, findTold, partOf, rowsTold, LiesIn, Changes, removal, goodLetter, hasRoom, insertion, compaction}
+use Rattle.pack.specs.Calls.{checkTold, locatedAt, locatedIn, foundAt, findTold, rowsPart, rowsTold, LiesIn, Changes, removal, goodLetter, hasRoom, insertion, compaction}
 use Rattle.heads.proofs.FindLaws.{records-are, place-in}
 use Rattle.heads.proofs.OpenLaws.{Opens, opens-of, told, told-damaged, pack-wholes, pack-bytes, head-size, pack-fits, remade-is}
 
@@ -232,11 +232,11 @@ pub rows-of : (s : List ℕ) (code start w size : ℕ) → located.Rows start w 
 unfolding rowsTold
 rows-of s code start w size e =
     let k : start + size - start ≡ size = omega arith in
-    ap (λ (j : ℕ). take j (drop start s)) k ∙ ap (partOf s) e
+    ap (λ (j : ℕ). take j (drop start s)) k ∙ ap (rowsPart s) e
 
 pub rows-none : (s : List ℕ) (code : ℕ) (r : Refusal) → located.Refused r ≡ locatedIn (meaning s) code → [] ≡ rowsTold s code
 unfolding rowsTold
-rows-none s code r e = ap (partOf s) e
+rows-none s code r e = ap (rowsPart s) e
 
 -- The part lies where find tells, and a refusal tells nothing.
 module _ (pack part : RefT (List ℕ)) (x : Located) where

@@ -11,7 +11,7 @@ use lib.ListN.{length}
 use borrow.Author.Tests.{eqb-true, eqb-false, eq-eqb, ne-eqb, leb-true, leb-false, le-leb, lt-leb, not-false}
 use Rattle.ground.specs.Refusals.{refusal, badShape, damagedPack, codePresent, codeAbsent, noRoom}
 use Rattle.ground.specs.declared.refusals.Refusal.{Refusal}
-use Rattle.ground.specs.Runs.{all}
+use Rattle.ground.specs.Runs.{all, joined}
 use Rattle.ground.proofs.Tests.{and-left, and-right, and-none, or-right, never-both, not-true-false, clash}
 use Rattle.rows.specs.Rows.{legalByte}
 use Rattle.records.specs.declared.Head.{Head}
@@ -21,7 +21,7 @@ use Rattle.records.specs.Versions.{headLength, recordHeadLength, maxWidth}
 use Rattle.records.specs.Records.{minusOne, hasLive, liveCount}
 use Rattle.records.specs.Places.{placeIn, isPlace}
 use Rattle.records.proofs.WalkLaws.{place-has}
-use Rattle.edits.specs.Changes.{joined, hasFree, removed, placed, newRecord}
+use Rattle.edits.specs.Changes.{hasFree, removed, placed, newRecord}
 use Rattle.heads.specs.Pack.{Pack, says, damaged, meaning}
 use Rattle.pack.specs.declared.PackAnswer.{PackAnswer}
 use Rattle.pack.specs.declared.PackAnswer.the-variants as checked

@@ -18,7 +18,7 @@ use Rattle.rules.proofs.Deciding.{same-number}
 use Rattle.kinds.specs.Kinds.{rulesJoining}
 use Rattle.pairs.specs.declared.Joint.the-variants.{Unjoinable}
 use Rattle.pairs.specs.Pair.{inSet, controlled, isJoined, byteOf}
-use Rattle.pairs.specs.Steps.{itsRule, kept}
+use Rattle.pairs.specs.Steps.{itsRule, keptBySet}
 use Rattle.pairs.proofs.Sets.{listed, by, every-rule, Tried, joined, unjoined, by-any, controlled-by, kept-all}
 
 -- what a set and a rule's number have in common
@@ -76,7 +76,7 @@ module _ (h l r : ℕ) where
       unruled : n ≡ 0 → Unjoinable ≡ controlled set h l r → Masked n
 
     pub masked : Masked (bitAnd set (rulesJoining h l r))
-    unfolding kept
+    unfolding keptBySet
     masked = go (by-any h l r)
       where
         kept-by : (p : Rule) (x : ℕ) → byRule p h l r ≡ some x → itsRule h l r ≡ by p x → (t : Bool) → inSet set p ≡ t → Masked (bitAnd set (rulesJoining h l r))
@@ -86,11 +86,11 @@ module _ (h l r : ℕ) where
         kept-by p x e i false t =
             let bit : set / ruleNumber p % 2 ≡ 0 = no-bit (set / ruleNumber p) (eqb-false (set / ruleNumber p % 2) 1 t) in
             unruled (ap (bitAnd set) (one-number p x e) ∙ (shared set p ∙ (ap (λ (b : ℕ). b * ruleNumber p) bit ∙ zero-mul (ruleNumber p))))
-            (sym (kept-all h l r set ∙ (ap (kept set) i ∙ rw t)))
+            (sym (kept-all h l r set ∙ (ap (keptBySet set) i ∙ rw t)))
 
         go : Tried every-rule h l r rules (itsRule h l r) → Masked (bitAnd set (rulesJoining h l r))
         go (joined p x w e i) = kept-by p x e i (inSet set p) refl
-        go (unjoined n i) = unruled (ap (bitAnd set) (no-number (λ p. n p (listed p) refl)) ∙ and-zero-r set) (sym (kept-all h l r set ∙ ap (kept set) i))
+        go (unjoined n i) = unruled (ap (bitAnd set) (no-number (λ p. n p (listed p) refl)) ∙ and-zero-r set) (sym (kept-all h l r set ∙ ap (keptBySet set) i))
 
     -- whether they have anything in common
     pub mask-joins : not (eqb (bitAnd set (rulesJoining h l r)) 0) ≡ isJoined (controlled set h l r)

@@ -15,7 +15,7 @@ use Rattle.rules.proofs.Rules.{is-some, only, joined-by-only, one-rule}
 use Rattle.pairs.specs.declared.Joint.{Joint}
 use Rattle.pairs.specs.declared.Joint.the-variants.{ByRule, Unjoinable}
 use Rattle.pairs.specs.Pair.{joinedBy, firstRule, inSet, controlled, isJoined, EveryRuleOf}
-use Rattle.pairs.specs.Steps.{itsRule, kept}
+use Rattle.pairs.specs.Steps.{itsRule, keptBySet}
 
 -- a rule of a list
 pub Listed : Rule → List Rule → Type 0
@@ -122,20 +122,20 @@ module _ (h l r : ℕ) where
           i ∙ ap (λ (v : Option ℕ). joinedBy p v Unjoinable) value
 
   -- it is found without the set, which is asked of it afterwards
-  pub kept-all : (set : ℕ) → controlled set h l r ≡ kept set (itsRule h l r)
-  unfolding kept
+  pub kept-all : (set : ℕ) → controlled set h l r ≡ keptBySet set (itsRule h l r)
+  unfolding keptBySet
   kept-all set = go (by-set set h l r) by-any
     where
       asked : (q : Rule) (y : ℕ) (t : Bool) → inSet set q ≡ t → (inSet set q ≡ true → ⊥) → Unjoinable ≡ cond t (by q y) Unjoinable
       asked q y true e n = absurd (n e)
       asked q y false e n = refl
 
-      go : Tried (inSet set) h l r rules (controlled set h l r) → Tried every-rule h l r rules (itsRule h l r) → controlled set h l r ≡ kept set (itsRule h l r)
+      go : Tried (inSet set) h l r rules (controlled set h l r) → Tried every-rule h l r rules (itsRule h l r) → controlled set h l r ≡ keptBySet set (itsRule h l r)
       go (joined p x w b i) any =
           let its = found p (some x) (sym (joined-by-only h l r p (is-some _ x b))) b in
-          i ∙ sym (ap (kept set) its ∙ rw w)
-      go (unjoined n i) (joined q y v c k) = i ∙ (asked q y (inSet set q) refl (λ w. never q y c (n q (listed q) w)) ∙ sym (ap (kept set) k))
-      go (unjoined n i) (unjoined m k) = i ∙ sym (ap (kept set) k)
+          i ∙ sym (ap (keptBySet set) its ∙ rw w)
+      go (unjoined n i) (joined q y v c k) = i ∙ (asked q y (inSet set q) refl (λ w. never q y c (n q (listed q) w)) ∙ sym (ap (keptBySet set) k))
+      go (unjoined n i) (unjoined m k) = i ∙ sym (ap (keptBySet set) k)
 
 -- a set that has every rule of another joins every pair that the other joins
 pub controlled-more : (p q : ℕ) → EveryRuleOf p q → (h l r : ℕ) → isJoined (controlled p h l r) ≡ true → isJoined (controlled q h l r) ≡ true

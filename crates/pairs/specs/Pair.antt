@@ -73,7 +73,7 @@ isJoined Unjoinable = false
 unfoldable pub joins : Mode → ℕ → ℕ → Bool
 joins y l r = isJoined (joint y l r)
 
--- What a pair that joins becomes. (Of one that does not, 0: no result has such a pair, proofs of crate join.)
+-- What a pair that joins becomes. (Of one that does not, 0: no result has such a pair, proofs of crate overlap.)
 abbrev pub byteOf : Joint → ℕ
 byteOf (ByBlank x) = x .0
 byteOf (ByUniversal x) = x .0

@@ -12,8 +12,8 @@ unfoldable pub itsRule : ℕ → ℕ → ℕ → Joint
 itsRule h l r = firstRule (λ rule. true) rules h l r
 
 -- A joint by a rule of the set; of any other pair, none.
-unfoldable pub kept : ℕ → Joint → Joint
-kept set (ByBlank x) = Unjoinable
-kept set (ByUniversal x) = Unjoinable
-kept set (ByRule rule x) = cond (inSet set rule) (ByRule rule x) Unjoinable
-kept set Unjoinable = Unjoinable
+unfoldable pub keptBySet : ℕ → Joint → Joint
+keptBySet set (ByBlank x) = Unjoinable
+keptBySet set (ByUniversal x) = Unjoinable
+keptBySet set (ByRule rule x) = cond (inSet set rule) (ByRule rule x) Unjoinable
+keptBySet set Unjoinable = Unjoinable

@@ -17,7 +17,7 @@ use Rattle.spans.specs.declared.Sought.{Sought}
 use Rattle.breaks.specs.Breaking.{spanEnd}
 use Rattle.spans.specs.Spans.{part, wideIn}
 use Rattle.breaks.specs.Steps.{Opens}
-use Rattle.spans.specs.Steps.{Stands, SoughtFrom, SpanDrawn}
+use Rattle.spans.specs.Steps.{LineStands, SoughtFrom, SpanDrawn}
 use Rattle.breaks.proofs.BreakingLaws.{line-is}
 
 -- What stands before the place where a line is put stays.
@@ -30,7 +30,7 @@ module _ (y : Mode) (h w at : ℕ) (area out out′ : List ℕ) (l : at ≤ leng
   line-front = let b = scratchLine (y .direction) w area in front-stays at (h * (w + 1)) out out′ _ l (put b (like-same h b))
 
   -- a line that is put stands in the output
-  pub line-stands : (line : Block) → Like h (scratchLine (y .direction) w area) line → Stands y h line w at out′
+  pub line-stands : (line : Block) → Like h (scratchLine (y .direction) w area) line → LineStands y h line w at out′
   line-stands line like = record { width = like .width; bytes = put line like ∙ ap (λ (x : List ℕ). x ++ shown (y .hardblank .0) h line) (sym line-front) }
 
 -- A flag is not both.
@@ -42,8 +42,8 @@ module _ (y : Mode) (h : ℕ) (line : List ℕ → Block) (limit : ℕ) (s : Lis
   pub kept-line : Opens (wideIn line s) limit s b → (at : ℕ) (d : Sought) (area out : List ℕ) → SoughtFrom y h line limit s b at d area out → d .end ≡ d .kept .end → SpanDrawn y h line limit s b at (record { end = d .end; width = d .kept .width; put = true }) area out
   kept-line o at d area out q e =
       let l = line-is (wideIn line s) limit s b (o .within) (o .first) (o .one) in
-      let k : Stands y h (line (part s b (d .end))) (d .kept .width) at out =
-      subst (λ (j : ℕ). Stands y h (line (part s b j)) (d .kept .width) at out) (sym e) (q .kept (omega (arith, l .longer, q .end, e))) in
+      let k : LineStands y h (line (part s b (d .end))) (d .kept .width) at out =
+      subst (λ (j : ℕ). LineStands y h (line (part s b j)) (d .kept .width) at out) (sym e) (q .kept (omega (arith, l .longer, q .end, e))) in
       record { end = q .end; ready = record { width = k .width; held = λ z. absurd (never z); stands = λ z. k } }
 
   -- the area holds the line

@@ -41,13 +41,13 @@ pub record MeasuredAs (source : Source) (cs : List Command) (k limit : ℕ) (tex
   pub missing : length text ≤ m .place → m .missing ≡ howMany isMissing source (textCodes cs k text)
 
 -- A line w wide stands in the output from a place on.
-pub record Stands (y : Mode) (h : ℕ) (drawn : Block) (w at : ℕ) (out : List ℕ) : Type 0 where
+pub record LineStands (y : Mode) (h : ℕ) (drawn : Block) (w at : ℕ) (out : List ℕ) : Type 0 where
   pub width : w ≡ drawn .width
   pub bytes : take (at + h * (w + 1)) out ≡ take at out ++ shown (y .hardblank .0) h drawn
 
 -- What was kept of the line that starts at b stands in the output; `line e` is the drawing from b to before e.
 abbrev pub KeptAs : Mode → ℕ → (ℕ → Block) → ℕ → ℕ → Kept → List ℕ → Type 0
-KeptAs y h line b at k out = b < k .end → Stands y h (line (k .end)) (k .width) at out
+KeptAs y h line b at k out = b < k .end → LineStands y h (line (k .end)) (k .width) at out
 
 -- A line was sought from b on: where it ends; the scratch area holds the text from b as far as it was drawn, and what was kept of the line stands in the output.
 pub record SoughtFrom (y : Mode) (h : ℕ) (line : List ℕ → Block) (limit : ℕ) (s : List ℕ) (b at : ℕ) (d : Sought) (area out : List ℕ) : Type 0 where
@@ -59,7 +59,7 @@ pub record SoughtFrom (y : Mode) (h : ℕ) (line : List ℕ → Block) (limit : 
 pub record Ready (y : Mode) (h : ℕ) (drawn : Block) (d : DrawnSpan) (at : ℕ) (area out : List ℕ) : Type 0 where
   pub width : d .width ≡ drawn .width
   pub held : d .put ≡ false → Like h (scratchLine (y .direction) (d .width) area) drawn
-  pub stands : d .put ≡ true → Stands y h drawn (d .width) at out
+  pub stands : d .put ≡ true → LineStands y h drawn (d .width) at out
 
 -- The line that starts at b was drawn: where it ends, and where it is.
 pub record SpanDrawn (y : Mode) (h : ℕ) (line : List ℕ → Block) (limit : ℕ) (s : List ℕ) (b at : ℕ) (d : DrawnSpan) (area out : List ℕ) : Type 0 where

@@ -89,9 +89,9 @@ abbrev pub otherRules : ℕ → ℕ
 otherRules set = set % 4096
 
 -- What an overlap asks of each pair that faces: that the layout joins it, or that it has a blank or is of two bars.
-abbrev pub passing : PairTest → ℕ → ℕ → Bool
-passing (ByLayout layout) u l = merges layout u l
-passing Bars u l = barred u l
+abbrev pub passesBy : PairTest → ℕ → ℕ → Bool
+passesBy (ByLayout layout) u l = merges layout u l
+passesBy Bars u l = barred u l
 
 -- "17 as in the join, but .. the five rules": a set is a sum of one to five of them, 256 to 7,936 in steps of 256.
 abbrev pub goodSet : ℕ → Bool

@@ -9,7 +9,7 @@ use subchars::VerticalLayout;
 use subchars::VerticalSmushing;
 ghost use mathlib.Core.Path.{_≡_};
 ghost use Rattle.rules.specs.Rules.{eitherOrder};
-ghost use Rattle.vertical.specs.VerticalPair.{setHas, twoBars, firstMerging, merge, merges, mergedByte, barred, passing, goodSet, goodVertical};
+ghost use Rattle.vertical.specs.VerticalPair.{setHas, twoBars, firstMerging, merge, merges, mergedByte, barred, passesBy, goodSet, goodVertical};
 ghost use Rattle.vertical.specs.Steps.{sidewaysLayout, rulesOf, lineRules, told};
 
 // What an overlap asks of each pair that faces: that the layout joins it, or that it has a blank or is of two bars.
@@ -137,7 +137,7 @@ fn is_barred(u: SubCharacter, l: SubCharacter) -> bool
 
 // Whether a pair passes a test, u above l.
 pub fn passes(test: PairTest, u: SubCharacter, l: SubCharacter) -> bool
-    ensures { λ t. ⌜ t ≡ passing test (u .0) (l .0) ⌝ }
+    ensures { λ t. ⌜ t ≡ passesBy test (u .0) (l .0) ⌝ }
 {
     match test {
         PairTest::ByLayout(layout) => can_merge(layout, u, l),

@@ -110,7 +110,7 @@ use Rattle.finding.proofs.ToldApart as finding
 use Rattle.reader.specs.declared.Use.the-variants.{Nothing}
 use Rattle.reader.specs.declared.LookedUp.{LookedUp}
 use Rattle.reader.specs.declared.LookedUp.the-variants as three
-use Rattle.reader.specs.Reader.{used, lookedUp}
+use Rattle.reader.specs.Reader.{used, lookedUp, lastOf}
 use Rattle.reader.proofs.ThreeLaws as three-cases
 use Rattle.reader.proofs.ThreeLaws.{Has}
 use Rattle.source.specs.declared.Counts.{Counts}
@@ -133,8 +133,8 @@ use Rattle.flc.proofs.TableLaws as control-rows
 use Rattle.flc.proofs.TableLaws.{Reaches}
 use Rattle.mapping.proofs.MappingLaws as mapping
 use Rattle.mapping.proofs.MappingLaws.{NoneFits}
-use Rattle.source.specs.Source.{Source, fontSource, packSource}
-use Rattle.drawing.specs.Drawing.{charactersOf, byteChoice, fontLine, fontCounts, lineOf, textCodes, traceOf, directionOf, Lined, drawLined, linedAnswer, bytesOf}
+use Rattle.source.specs.Source.{Source, fontSource, packSource, twoSource}
+use Rattle.drawing.specs.Drawing.{charactersOf, byteChoice, fontLine, fontCounts, lineOf, textCodes, traceOf, directionOf, Lined, drawLined, linedAnswer, bytesOf, modeOf}
 use Rattle.drawing.specs.Steps.{withCharacter}
 use Rattle.drawing.proofs.Answers as drawing
 use Rattle.drawing.proofs.DrawingLaws as drawings
@@ -169,7 +169,7 @@ use Rattle.font.specs.Font as font
 use Rattle.records.specs.declared.Head.{Head}
 use Rattle.records.specs.declared.Place.the-variants as place-is
 use Rattle.records.specs.Versions.{headLength, recordHeadLength, maxWidth}
-use Rattle.records.specs.Records.{isZero, live as liveByte, free as freeByte, minusOne, codeIn, widthIn, rowsIn, sizeIn, listing, noneTwice, hasLive, liveCount}
+use Rattle.records.specs.Records.{isZero, live as liveByte, freeStatus as freeByte, minusOne, codeIn, widthIn, rowsIn, sizeIn, recordList, noneTwice, hasLive, liveCount}
 use Rattle.records.specs.Places.{placeIn}
 use Rattle.records.specs.Letters.{letter, noLetter}
 use Rattle.edits.specs.Changes as edits
@@ -192,9 +192,6 @@ use Rattle.fontlists.specs.declared.two.Which.the-variants as which-is
 use Rattle.fontlists.specs.declared.two.LookedUpInTwo.the-variants as in-two
 use Rattle.fontlists.specs.TwoFonts.{lookedUpInTwo, bytesIn}
 use Rattle.reader.specs.declared.Use.the-variants as use-is
-use Rattle.reader.specs.Reader.{lastOf}
-use Rattle.source.specs.Source.{twoSource}
-use Rattle.drawing.specs.Drawing.{modeOf}
 use Rattle.request.specs.Request.{rowRequest}
 use Rattle.twofonts.specs.declared.RequestedOfTwo.the-variants as two-row-is
 use Rattle.twofonts.specs.Fonts.{alike}
@@ -1480,7 +1477,7 @@ module _ (s : List ℕ) where
       ((heads.isVersion (headSaid .version) ≡ false) ⊎ (headSaid .height < 1) ⊎ (maxHeight < headSaid .height) ⊎ (legalHardblank (headSaid .hardblank .0) ≡ false)) ⊎
       (length s < headLength (headSaid .version)) ⊎
       RecordsBroken ⊎
-      (noneTwice (listing headSaid recordBytes .records) ≡ false))
+      (noneTwice (recordList headSaid recordBytes .records) ≡ false))
   damaged-exactly-when = damage.damaged-when s
 
   -- Check: "20 damaged pack", at 0, and no other refusal; otherwise "height and how many live records".

@@ -10,19 +10,19 @@ use Rattle.ground.specs.Count.{every}
 use Rattle.ground.proofs.Counting.{every-none, every-next, every-stop}
 use Rattle.subchars.specs.Hardblank.{blanked}
 use Rattle.blocks.specs.Writing.{fromOn}
-use Rattle.vertical.specs.VerticalPair.{passing}
+use Rattle.vertical.specs.VerticalPair.{passesBy}
 use Rattle.columns.proofs.overlaps.row_passes.Statement.{statement}
 use Rattle.columns.proofs.overlaps.row_passes.Tie as tie
 
 abbrev Inv-loop : tie.InvT-loop
-Inv-loop test hardblank upper a lower b n c₀ c = (c ≤ n) × (every (λ k. passing test (blanked (hardblank .0) (fromOn upper a k)) (blanked (hardblank .0) (fromOn lower b k))) c ≡ true)
+Inv-loop test hardblank upper a lower b n c₀ c = (c ≤ n) × (every (λ k. passesBy test (blanked (hardblank .0) (fromOn upper a k)) (blanked (hardblank .0) (fromOn lower b k))) c ≡ true)
 
 abbrev μ-loop : tie.MeasureT-loop
 μ-loop test hardblank upper a lower b n c₀ c = n - c
 
 -- whether pair k passes
 abbrev pass : tie.Start Inv-loop μ-loop → ℕ → Bool
-pass s k = let a = s .args in passing (a .test) (blanked (a .hardblank .0) (fromOn (a .upper .now) (a .a) k)) (blanked (a .hardblank .0) (fromOn (a .lower .now) (a .b) k))
+pass s k = let a = s .args in passesBy (a .test) (blanked (a .hardblank .0) (fromOn (a .upper .now) (a .a) k)) (blanked (a .hardblank .0) (fromOn (a .lower .now) (a .b) k))
 
 loop-holds : tie.Need-loop-holds Inv-loop μ-loop
 loop-holds c = (omega arith, every-none (pass (c .before .before)))
@@ -51,7 +51,7 @@ passes-requires c κs = search needs
 returns : tie.Need-returns Inv-loop μ-loop
 returns c =
     let s = c .before .before .before .before .before .before .before .before .before .before in
-    let pair = c .before .passes .ensures ∙ ap₂ (passing (s .args .test)) (c .before .before .before .before .blanked .ensures) (c .before .before .blanked2 .ensures) in
+    let pair = c .before .passes .ensures ∙ ap₂ (passesBy (s .args .test)) (c .before .before .before .before .blanked .ensures) (c .before .before .blanked2 .ensures) in
     sym (every-stop (pass s) (s .args .n) (c .before .before .before .before .before .before .before .loop .c) (omega arith) (sym pair ∙ not-true _ (c .if1 .taken)))
 
 add-c : tie.Need-add-c Inv-loop μ-loop
@@ -63,7 +63,7 @@ loop-less c = omega arith
 loop-again : tie.Need-loop-again Inv-loop μ-loop
 loop-again c =
     let s = c .before .before .before .before .before .before .before .before .before .before in
-    let pair = c .before .passes .ensures ∙ ap₂ (passing (s .args .test)) (c .before .before .before .before .blanked .ensures) (c .before .before .blanked2 .ensures) in
+    let pair = c .before .passes .ensures ∙ ap₂ (passesBy (s .args .test)) (c .before .before .before .before .blanked .ensures) (c .before .before .blanked2 .ensures) in
     (omega arith, every-next (pass s) (c .before .before .before .before .before .before .before .loop .c) (c .before .before .before .before .before .before .before .loop .inv .1) (sym pair ∙ not-false _ (c .if1 .left)))
 
 returns-2 : tie.Need-returns-2 Inv-loop μ-loop

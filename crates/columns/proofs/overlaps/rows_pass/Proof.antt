@@ -10,7 +10,7 @@ use borrow.Author.Tests.{not-true, not-false}
 use Rattle.ground.specs.Count.{every}
 use Rattle.ground.proofs.Counting.{every-none, every-next, every-stop}
 use Rattle.lanes.specs.Blocks.{Cells}
-use Rattle.vertical.specs.VerticalPair.{passing}
+use Rattle.vertical.specs.VerticalPair.{passesBy}
 use Rattle.columns.specs.Stack.{upright}
 use Rattle.columns.specs.Placing.{placedBlock}
 use Rattle.columns.proofs.Facing.{rowFaces, rows-facing, row-read}
@@ -19,7 +19,7 @@ use Rattle.columns.proofs.overlaps.rows_pass.Tie as tie
 
 abbrev Inv-loop : tie.InvT-loop
 Inv-loop test hardblank upper u lower l o w first i₀ i =
-    (i ≤ o) × (every (rowFaces (passing test) (min (u .width) (l .width)) (u .height) (upright (hardblank .0) (placedBlock upper u)) (upright (hardblank .0) (placedBlock lower l)) o) i ≡ true)
+    (i ≤ o) × (every (rowFaces (passesBy test) (min (u .width) (l .width)) (u .height) (upright (hardblank .0) (placedBlock upper u)) (upright (hardblank .0) (placedBlock lower l)) o) i ≡ true)
 
 abbrev μ-loop : tie.MeasureT-loop
 μ-loop test hardblank upper u lower l o w first i₀ i = o - i
@@ -37,7 +37,7 @@ abbrev narrow : St → ℕ
 narrow s = min (s .args .u .width) (s .args .l .width)
 
 abbrev pass : St → ℕ → Bool
-pass s = rowFaces (passing (s .args .test)) (narrow s) (s .args .u .height) (up s) (low s) (s .args .o)
+pass s = rowFaces (passesBy (s .args .test)) (narrow s) (s .args .u .height) (up s) (low s) (s .args .o)
 
 abbrev In : Type 0
 In = tie.In-loop Inv-loop μ-loop
@@ -90,15 +90,15 @@ told c =
     let w = c .before .before .before .before .before .before .before .before .smaller in
     let r = a .u .height - a .o + c .before .before .before .before .before .before .loop .i in
     c .row-passes .ensures
-    ∙ (row-read (passing (a .test)) (a .hardblank .0) (a .upper .now) (a .lower .now) (a .u) (a .l) (w .result) r (c .before .before .before .before .before .before .loop .i) (omega (arith, w .ensures)) (omega (arith, w .ensures))
-    ∙ ap (λ (x : ℕ). every (λ k. passing (a .test) (up s k r) (low s k (c .before .before .before .before .before .before .loop .i))) x) (w .ensures))
+    ∙ (row-read (passesBy (a .test)) (a .hardblank .0) (a .upper .now) (a .lower .now) (a .u) (a .l) (w .result) r (c .before .before .before .before .before .before .loop .i) (omega (arith, w .ensures)) (omega (arith, w .ensures))
+    ∙ ap (λ (x : ℕ). every (λ k. passesBy (a .test) (up s k r) (low s k (c .before .before .before .before .before .before .loop .i))) x) (w .ensures))
 
 returns : tie.Need-returns Inv-loop μ-loop
 returns c =
     let s = c .before .before .before .before .before .before .before .before .before .before .before .before in
     let a = s .args in
     let row = told (c .before) in
-    sym (sym (rows-facing (passing (a .test)) (narrow s) (a .u .height) (up s) (low s) (a .o)) ∙ every-stop (pass s) (a .o) (c .before .before .before .before .before .before .before .loop .i) (omega arith) (sym row ∙ not-true _ (c .if1 .taken)))
+    sym (sym (rows-facing (passesBy (a .test)) (narrow s) (a .u .height) (up s) (low s) (a .o)) ∙ every-stop (pass s) (a .o) (c .before .before .before .before .before .before .before .loop .i) (omega arith) (sym row ∙ not-true _ (c .if1 .taken)))
 
 add-i : tie.Need-add-i Inv-loop μ-loop
 add-i c = omega arith
@@ -115,7 +115,7 @@ returns-2 c =
     let s = c .before .before .before .before .before .before in
     let a = s .args in
     let e : l .i ≡ a .o = omega arith in
-    sym (sym (rows-facing (passing (a .test)) (narrow s) (a .u .height) (up s) (low s) (a .o)) ∙ rw e at (l .inv .1))
+    sym (sym (rows-facing (passesBy (a .test)) (narrow s) (a .u .height) (up s) (low s) (a .o)) ∙ rw e at (l .inv .1))
 
 pub rows-pass-spec : {M : Type 1} → statement M
 rows-pass-spec =

@@ -6,7 +6,7 @@ use native.Mathlib.Omega.{arith}
 use borrow.Author.Needs.{needs}
 use Rattle.lanes.specs.Blocks.{Cells}
 use Rattle.lanes.proofs.Smushing.{more-at, full-at, not-at}
-use Rattle.vertical.specs.VerticalPair.{passing}
+use Rattle.vertical.specs.VerticalPair.{passesBy}
 use Rattle.columns.specs.Stack.{upright}
 use Rattle.columns.specs.Placing.{placedBlock}
 use Rattle.columns.proofs.overlaps.smushing_rows.Statement.{statement}
@@ -41,21 +41,21 @@ returns c =
     let s = c .before .before .before .before .before .before .before in
     let a = s .args in
     let f = c .before .before .before .before .fitting-rows in
-    more-at (narrow s) (a .u .height) (a .l .height) (up s) (low s) (passing (a .test)) (f .result) (f .ensures) (omega (arith, c .before .before .if1 .taken, c .before .before .before .smaller .ensures)) (sym (c .before .rows-pass .ensures) ∙ c .if2 .taken)
+    more-at (narrow s) (a .u .height) (a .l .height) (up s) (low s) (passesBy (a .test)) (f .result) (f .ensures) (omega (arith, c .before .before .if1 .taken, c .before .before .before .smaller .ensures)) (sym (c .before .rows-pass .ensures) ∙ c .if2 .taken)
 
 returns-2 : tie.Need-returns-2
 returns-2 c =
     let s = c .before .before .before .before .before .before .before in
     let a = s .args in
     let f = c .before .before .before .before .fitting-rows in
-    not-at (narrow s) (a .u .height) (a .l .height) (up s) (low s) (passing (a .test)) (f .result) (f .ensures) (sym (c .before .rows-pass .ensures) ∙ c .if2 .left)
+    not-at (narrow s) (a .u .height) (a .l .height) (up s) (low s) (passesBy (a .test)) (f .result) (f .ensures) (sym (c .before .rows-pass .ensures) ∙ c .if2 .left)
 
 returns-3 : tie.Need-returns-3
 returns-3 c =
     let s = c .before .before .before .before .before in
     let a = s .args in
     let f = c .before .before .fitting-rows in
-    full-at (narrow s) (a .u .height) (a .l .height) (up s) (low s) (passing (a .test)) (f .result) (f .ensures) (omega (arith, c .if1 .left, c .before .smaller .ensures))
+    full-at (narrow s) (a .u .height) (a .l .height) (up s) (low s) (passesBy (a .test)) (f .result) (f .ensures) (omega (arith, c .if1 .left, c .before .smaller .ensures))
 
 pub smushing-rows-spec : {M : Type 1} → statement M
 smushing-rows-spec =
