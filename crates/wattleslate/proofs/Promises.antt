@@ -18,7 +18,7 @@ use Rattle.ground.specs.Area.{zeros, padded}
 use Rattle.ground.specs.Text.{byte, bytes, among}
 use Rattle.ground.specs.Limits.{maxFontLength, maxControlFile, maxText, maxLineWidth, maxHeight, maxStackHeight, maxCharacters, maxCommands, minLines, minScratch, minStackedScratch, maxCharacterWidth, maxRules, maxStages, maxPackLength, minPackLength}
 use Rattle.ground.specs.Refusals.{refusal, fontTooLong, noSignature, badHardblank, badParameters, tooManyCharacters, areaTooSmall, controlFileTooLong, notACommand, badRanges, extendedCommand, tooManyCommands, textTooLong, lineTooWide, badShape, stackTooHigh, characterTooWide, missingLine, badRow, badCodeTag, damagedPack, codePresent, codeAbsent, noRoom, fontsDiffer, wrongLength}
-use Rattle.ground.specs.Runs.{run, all, begins}
+use Rattle.ground.specs.Runs.{run, all, begins, joined}
 use Rattle.ground.specs.declared.refusals.Refusal.{Refusal}
 use Rattle.ground.proofs.Tests.{clash}
 use Rattle.subchars.specs.declared.Code.{Code}
@@ -1541,7 +1541,7 @@ module _ (s : List ℕ) where
 
     -- Where the record would end behind the last one.
     abbrev endBehind : Head → List (List ℕ) → ℕ
-    endBehind f rs = headLength (f .version) + length (edits.joined rs) + (recordHeadLength (f .version) + f .height * width)
+    endBehind f rs = headLength (f .version) + length (joined rs) + (recordHeadLength (f .version) + f .height * width)
 
     refusal-20-of-pack-put : (p : ℕ) → Puts (edit-is.Refused (refusal damagedPack p)) ↔ ((p ≡ 0) × (heads.meaning s ≡ heads.damaged))
     refusal-20-of-pack-put = pack-rows.put-20 s code width rows
@@ -1564,7 +1564,7 @@ module _ (s : List ℕ) where
     pack-put-otherwise = pack-rows.put-done s code width rows
 
 -- "After it put has room whenever the record fits behind them", and only then.
-room-after-compact : (f : Head) (size width : ℕ) (rs : List (List ℕ)) → calls.hasRoom f size width (edits.kept rs) ≡ leb (headLength (f .version) + length (edits.joined (edits.kept rs)) + (recordHeadLength (f .version) + f .height * width)) size
+room-after-compact : (f : Head) (size width : ℕ) (rs : List (List ℕ)) → calls.hasRoom f size width (edits.kept rs) ≡ leb (headLength (f .version) + length (joined (edits.kept rs)) + (recordHeadLength (f .version) + f .height * width)) size
 room-after-compact = pack-laws.compact-room
 
 -- "Drawing from a pack takes layout and direction with the call; with a font's own it equals drawing from that font": the answer and the bytes, for every control file and text and for areas of every size.
