@@ -6,7 +6,7 @@ use Rattle.reader.specs.declared.FontAnswer.{FontAnswer}
 use Rattle.reader.specs.declared.FontAnswer.the-variants.{Read, Refused}
 use Rattle.checking.specs.declared.CheckAnswer.{CheckAnswer}
 use Rattle.checking.specs.declared.CheckAnswer.the-variants as check-is
-use Rattle.wattleslate.specs.ControlCall.{ControlTold}
+use Rattle.controlcalls.specs.ControlCall.{ControlTold}
 use Rattle.wattleslate.specs.DrawCall.{DrawTold}
 use Rattle.join.specs.JoinCall.{JoinTold}
 use Rattle.stack.specs.StackCall.{StackTold}

@@ -15,7 +15,7 @@ ghost use Prim.Native.Nat.{_<_, _*_};
 ghost use Rattle.join.specs.JoinCall.{joinTells};
 ghost use Rattle.stack.specs.StackCall.{stackTells};
 ghost use Rattle.twolines.specs.TwoLines.{stackPart};
-ghost use Rattle.wattleslate.specs.ControlCall.{controlTells};
+ghost use Rattle.controlcalls.specs.ControlCall.{controlTells};
 ghost use Rattle.wattleslate.specs.DrawCall.{drawTells};
 ghost use Rattle.answers.specs.Numbers.{valueBound, refusedAt, threeValues, placedAt, whereWrong, fontNumber, controlNumber, drawNumber, wrapNumber, joinNumber, stackNumber, packNumber, findNumber, editNumber, checkNumber};
 ghost use Rattle.answers.specs.Fits.{RefusalFits, ValuesFit, PlaceFits, FontFits, ControlFits, DrawFits, WrapFits, JoinFits, StackFits, PackFits, FindFits, EditFits, CheckFits};

@@ -11,7 +11,7 @@ use borrow.Author.Tests.{lt-ltb, le-ltb, le-leb, leb-true, eq-eqb, ne-eqb, not-t
 use Rattle.ground.specs.Runs.{run}
 use Rattle.ground.proofs.Tests.{and-both, and-left, and-right, never-both}
 use Rattle.breaks.specs.Words.{isBreak, inWord, wordFrom, wordBehind, endsWord}
-use Rattle.breaks.specs.Breaking.{fits, byWords, byCharacters, spanEnd, Span, span, spansBy, spansFrom, spansOf}
+use Rattle.breaks.specs.Breaking.{fitsWithin, byWords, byCharacters, spanEnd, Span, span, spansBy, spansFrom, spansOf}
 use Rattle.breaks.specs.Steps.{NoneWider, Grows}
 use Rattle.breaks.proofs.Largest.{largest-le, largest-holds, largest-max}
 use Rattle.breaks.proofs.WordLaws.{run-within, run-place, run-one, start-in-word, word-ends, ends-in-word, first-end}
@@ -73,32 +73,32 @@ module _ (wide : ℕ → ℕ → ℕ) (limit : ℕ) (s : List ℕ) where
         let l = f .behind in
         let m = f .within in
         let z : b + (e - b) ≡ e = omega arith in
-        largest-max (λ k. endsWord s (b + k) && fits wide limit b k) (length s - b) (e - b) (omega arith) (omega arith)
-        (and-both (endsWord s (b + (e - b))) (fits wide limit b (e - b)) (ap (endsWord s) z ∙ f .ends) (le-leb (wide b (b + (e - b))) limit (rw z (f .narrow))))
+        largest-max (λ k. endsWord s (b + k) && fitsWithin wide limit b k) (length s - b) (e - b) (omega arith) (omega arith)
+        (and-both (endsWord s (b + (e - b))) (fitsWithin wide limit b (e - b)) (ap (endsWord s) z ∙ f .ends) (le-leb (wide b (b + (e - b))) limit (rw z (f .narrow))))
 
     words-fit : 0 < W → WordsFit b (b + W)
     unfolding byWords
     words-fit l =
-        let t = largest-holds (λ k. endsWord s (b + k) && fits wide limit b k) (length s - b) l in
-        let m = largest-le (λ k. endsWord s (b + k) && fits wide limit b k) (length s - b) in
-        record { behind = omega arith; within = omega arith; ends = and-left (endsWord s (b + W)) _ t; narrow = leb-true _ _ (and-right (endsWord s (b + W)) (fits wide limit b W) t) }
+        let t = largest-holds (λ k. endsWord s (b + k) && fitsWithin wide limit b k) (length s - b) l in
+        let m = largest-le (λ k. endsWord s (b + k) && fitsWithin wide limit b k) (length s - b) in
+        record { behind = omega arith; within = omega arith; ends = and-left (endsWord s (b + W)) _ t; narrow = leb-true _ _ (and-right (endsWord s (b + W)) (fitsWithin wide limit b W) t) }
 
     characters-most : (e : ℕ) → b < e → e ≤ wordBehind s b → wide b e ≤ limit → e - b ≤ C
     unfolding byCharacters
     characters-most e l m n =
         let z : b + (e - b) ≡ e = omega arith in
-        largest-max (fits wide limit b) (run inWord (drop b s)) (e - b) (omega arith) (omega arith) (le-leb (wide b (b + (e - b))) limit (rw z n))
+        largest-max (fitsWithin wide limit b) (run inWord (drop b s)) (e - b) (omega arith) (omega arith) (le-leb (wide b (b + (e - b))) limit (rw z n))
 
     one-character : 1 ≤ C
     one-character = let m = run-one s inWord b h v in omega (arith, characters-most (b + 1) (omega arith) (omega arith) one)
 
     characters-le : C ≤ run inWord (drop b s)
     unfolding byCharacters
-    characters-le = largest-le (fits wide limit b) (run inWord (drop b s))
+    characters-le = largest-le (fitsWithin wide limit b) (run inWord (drop b s))
 
     characters-fit : wide b (b + C) ≤ limit
     unfolding byCharacters
-    characters-fit = leb-true _ _ (largest-holds (fits wide limit b) (run inWord (drop b s)) one-character)
+    characters-fit = leb-true _ _ (largest-holds (fitsWithin wide limit b) (run inWord (drop b s)) one-character)
 
     end-words : 0 < W → spanEnd wide limit s b ≡ b + W
     unfolding spanEnd

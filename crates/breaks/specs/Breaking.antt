@@ -15,16 +15,16 @@ largest p zero = 0
 largest p (suc n) = cond (p (suc n)) (suc n) (largest p n)
 
 -- The k bytes from b on fit: their drawing is at most the limit wide.
-abbrev pub fits : (ℕ → ℕ → ℕ) → ℕ → ℕ → ℕ → Bool
-fits wide limit b k = leb (wide b (b + k)) limit
+abbrev pub fitsWithin : (ℕ → ℕ → ℕ) → ℕ → ℕ → ℕ → Bool
+fitsWithin wide limit b k = leb (wide b (b + k)) limit
 
 -- "Each line takes the most words whose drawing, with the blanks between them, fits": how many bytes from b on; 0 where not even one word fits.
 unfoldable pub byWords : (ℕ → ℕ → ℕ) → ℕ → List ℕ → ℕ → ℕ
-byWords wide limit s b = largest (λ k. endsWord s (b + k) && fits wide limit b k) (length s - b)
+byWords wide limit s b = largest (λ k. endsWord s (b + k) && fitsWithin wide limit b k) (length s - b)
 
 -- "A first word that does not fit is broken after the most characters that fit."
 unfoldable pub byCharacters : (ℕ → ℕ → ℕ) → ℕ → List ℕ → ℕ → ℕ
-byCharacters wide limit s b = largest (fits wide limit b) (run inWord (drop b s))
+byCharacters wide limit s b = largest (fitsWithin wide limit b) (run inWord (drop b s))
 
 -- Where the line ends that starts at b.
 unfoldable pub spanEnd : (ℕ → ℕ → ℕ) → ℕ → List ℕ → ℕ → ℕ

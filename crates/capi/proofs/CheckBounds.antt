@@ -9,7 +9,7 @@ use lib.ListN.{length}
 use Rattle.ground.specs.Limits.{maxText, maxLineWidth, maxHeight}
 use Rattle.ground.specs.declared.refusals.Refusal.{Refusal}
 use Rattle.subchars.specs.declared.Code.{Code}
-use Rattle.figure.proofs.Showing.{length-shown}
+use Rattle.showing.proofs.Showing.{length-shown}
 use Rattle.font.proofs.ReadingLaws.{font-read}
 use Rattle.source.specs.Source.{Choice, found, stoodIn, nothing, Source, fontSource}
 use Rattle.drawing.specs.Drawing.{textCodes, withChoice, charactersOf, modeOf, traceOf}

@@ -16,8 +16,8 @@ use Rattle.subchars.specs.declared.Direction.{Direction}
 use Rattle.subchars.specs.declared.Layout.{Layout}
 use Rattle.subchars.specs.declared.Mode.{Mode}
 use Rattle.join.specs.Shape.{goodLayout}
-use Rattle.figure.specs.declared.PutAnswer.the-variants as put
-use Rattle.figure.specs.Line.{outputOf}
+use Rattle.showing.specs.declared.PutAnswer.the-variants as put
+use Rattle.showing.specs.Output.{outputOf}
 use Rattle.records.specs.declared.Head.{Head}
 use Rattle.records.specs.declared.Place.{Place}
 use Rattle.records.specs.declared.Place.the-variants.{At, Nowhere}
@@ -26,7 +26,7 @@ use Rattle.records.specs.Records.{minusOne, isLive, hasLive, liveCount}
 use Rattle.records.specs.Places.{placeIn}
 use Rattle.records.proofs.VersionLaws.{head-length-low}
 use Rattle.records.proofs.ListingLaws.{fine}
-use Rattle.edits.specs.Changes.{joined}
+use Rattle.ground.specs.Runs.{joined}
 use Rattle.edits.proofs.ReadBack.{Wholes, none, more}
 use Rattle.heads.specs.Pack.{Pack, says, damaged, meaning}
 use Rattle.heads.proofs.FindLaws.{some, low, short, place-in}
@@ -37,7 +37,7 @@ use Rattle.flc.specs.Control as flc
 use Rattle.source.specs.Source.{Source, packSource}
 use Rattle.source.specs.Counting.{countsOf}
 use Rattle.source.proofs.CountLaws.{few-replaced}
-use Rattle.drawing.specs.Drawing.{textCodes, lineOf, draws, refuses, unlined, linedText, linedRead, linedFrom, withCounts, linedAnswer}
+use Rattle.drawing.specs.Drawing.{textCodes, lineOf, draws, refuses, unlined, linedRead, linedFrom, withCounts, linedAnswer}
 use Rattle.drawing.proofs.DrawingLaws.{as-many}
 use Rattle.packdrawing.specs.PackDrawing.{packMode, packBy, packOf, packLined}
 use Rattle.answers.specs.Numbers.{valueBound}

@@ -15,7 +15,7 @@ ghost use Rattle.ground.specs.Area.{zeros};
 ghost use Rattle.font.specs.Font.{reading};
 ghost use Rattle.flc.specs.Control.{control};
 ghost use Rattle.reader.specs.Reader.{fontAnswer};
-ghost use Rattle.wattleslate.specs.ControlCall.{controlTold};
+ghost use Rattle.controlcalls.specs.ControlCall.{controlTold};
 ghost use Rattle.wattleslate.specs.DrawCall.{drawTold, drawOutput};
 ghost use Rattle.twolines.specs.TwoLines.{drawLines, linesTold, linesOutput};
 ghost use Rattle.wrapping.specs.Wrapping.{drawWrapped, wrapIn, wrapAnswer, wrapFirsts, wrapEnds, wrapOutput};

@@ -10,7 +10,7 @@ ghost use Rattle.ground.specs.Area.{zeros, padded};
 ghost use Rattle.subchars.specs.Layouts.{printDirection};
 ghost use Rattle.records.specs.Codes.{bitsOf};
 ghost use Rattle.heads.specs.Pack.{meaning};
-ghost use Rattle.pack.specs.Calls.{checkTold, findTold, tells, after, insertion, removal, compaction};
+ghost use Rattle.pack.specs.Calls.{checkTold, findTold, tells, bytesAfter, insertion, removal, compaction};
 ghost use Rattle.drawing.specs.Drawing.{linedAnswer, bytesOf};
 ghost use Rattle.packdrawing.specs.PackDrawing.{packLined};
 ghost use Rattle.wattleslate.specs.DrawCall.{drawTells};
@@ -37,7 +37,7 @@ pub extern "C" fn wattleslate_pack_find(pack: &[u8], code: i32) -> u64
 #[no_mangle]
 pub extern "C" fn wattleslate_pack_put(pack: &mut [u8], code: i32, width: usize, rows: &[u8]) -> u64
     ensures answer { λ r. ⌜ r ≡ editNumber (tells (insertion (meaning (now (pack .entry))) (length (now (pack .entry))) (bitsOf code) width (now (rows .entry)))) ⌝ }
-    ensures bytes { λ r. ⌜ now (pack .exit) ≡ after (now (pack .entry)) (insertion (meaning (now (pack .entry))) (length (now (pack .entry))) (bitsOf code) width (now (rows .entry))) ⌝ }
+    ensures bytes { λ r. ⌜ now (pack .exit) ≡ bytesAfter (now (pack .entry)) (insertion (meaning (now (pack .entry))) (length (now (pack .entry))) (bitsOf code) width (now (rows .entry))) ⌝ }
 {
     answers::edit_number(wattleslate::pack_put(pack, Code(code), width, rows))
 }
@@ -46,7 +46,7 @@ pub extern "C" fn wattleslate_pack_put(pack: &mut [u8], code: i32, width: usize,
 #[no_mangle]
 pub extern "C" fn wattleslate_pack_remove(pack: &mut [u8], code: i32) -> u64
     ensures answer { λ r. ⌜ r ≡ editNumber (tells (removal (meaning (now (pack .entry))) (bitsOf code))) ⌝ }
-    ensures bytes { λ r. ⌜ now (pack .exit) ≡ after (now (pack .entry)) (removal (meaning (now (pack .entry))) (bitsOf code)) ⌝ }
+    ensures bytes { λ r. ⌜ now (pack .exit) ≡ bytesAfter (now (pack .entry)) (removal (meaning (now (pack .entry))) (bitsOf code)) ⌝ }
 {
     answers::edit_number(wattleslate::pack_remove(pack, Code(code)))
 }
@@ -55,7 +55,7 @@ pub extern "C" fn wattleslate_pack_remove(pack: &mut [u8], code: i32) -> u64
 #[no_mangle]
 pub extern "C" fn wattleslate_pack_compact(pack: &mut [u8]) -> u64
     ensures answer { λ r. ⌜ r ≡ editNumber (tells (compaction (meaning (now (pack .entry))))) ⌝ }
-    ensures bytes { λ r. ⌜ now (pack .exit) ≡ after (now (pack .entry)) (compaction (meaning (now (pack .entry)))) ⌝ }
+    ensures bytes { λ r. ⌜ now (pack .exit) ≡ bytesAfter (now (pack .entry)) (compaction (meaning (now (pack .entry)))) ⌝ }
 {
     answers::edit_number(wattleslate::pack_compact(pack))
 }

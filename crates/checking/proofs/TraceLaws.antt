@@ -8,10 +8,12 @@ use lib.ListN.{length, getD, take}
 use Rattle.subchars.specs.declared.Direction.{Direction}
 use Rattle.subchars.specs.declared.Direction.the-variants.{LeftToRight, RightToLeft}
 use Rattle.subchars.specs.declared.Mode.{Mode}
-use Rattle.join.specs.Join.{Block, leftOf, rightOf, overlap}
-use Rattle.join.specs.Writing.{Like}
-use Rattle.join.proofs.Demand.{overlap-narrower}
-use Rattle.join.proofs.Likeness.{like-same, overlap-like}
+use Rattle.blocks.specs.Block.{Block, leftOf, rightOf}
+use Rattle.overlap.specs.Join.{overlap}
+use Rattle.blocks.specs.Writing.{Like}
+use Rattle.overlap.proofs.Demand.{overlap-narrower}
+use Rattle.blocks.proofs.Likeness.{like-same}
+use Rattle.overlap.proofs.Likeness.{overlap-like}
 use Rattle.figure.specs.Line.{attached, overlapWith, empty, lineFrom, overlapsFrom}
 use Rattle.figure.proofs.Folding.{attached-like}
 use Rattle.checking.specs.Verdict.{afterFirst}

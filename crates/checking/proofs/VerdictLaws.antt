@@ -13,10 +13,10 @@ use Rattle.ground.specs.Limits.{maxLineWidth}
 use Rattle.ground.specs.Refusals.{refusal, lineTooWide, wrongLength}
 use Rattle.ground.specs.declared.refusals.Refusal.{Refusal}
 use Rattle.ground.proofs.Tests.{below-or-not}
-use Rattle.join.specs.Join.{Block}
-use Rattle.join.specs.Writing.{Like}
-use Rattle.figure.proofs.Showing.{shown-like}
-use Rattle.figure.specs.Line.{shown}
+use Rattle.blocks.specs.Block.{Block}
+use Rattle.blocks.specs.Writing.{Like}
+use Rattle.showing.proofs.Showing.{shown-like}
+use Rattle.showing.specs.Output.{shown}
 use Rattle.checking.specs.declared.Compared.{Compared}
 use Rattle.checking.specs.declared.CheckAnswer.{CheckAnswer}
 use Rattle.checking.specs.declared.CheckAnswer.the-variants.{Accepted, WrongOverlap, WrongByte, Refused}

@@ -7,8 +7,8 @@ use lib.Dec.{eqb, ltb}
 use lib.ListN.{length}
 use Rattle.ground.specs.Limits.{maxLineWidth}
 use Rattle.ground.specs.Refusals.{refusal, lineTooWide, wrongLength}
-use Rattle.join.specs.Join.{Block}
-use Rattle.figure.specs.Line.{shown}
+use Rattle.blocks.specs.Block.{Block}
+use Rattle.showing.specs.Output.{shown}
 use Rattle.checking.specs.declared.Compared.{Compared}
 use Rattle.checking.specs.declared.Compared.the-variants.{Same, Differs}
 use Rattle.checking.specs.declared.CheckAnswer.{CheckAnswer}

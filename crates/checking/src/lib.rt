@@ -9,10 +9,10 @@ ghost use mathlib.Core.List.{List, [], _∷_, _++_};
 ghost use Prim.Native.Nat.{ℕ, _+_, _-_, _*_, _<_, _≤_, _^_};
 ghost use lib.ListN.{length};
 ghost use Rattle.ground.specs.Limits.{maxLineWidth, maxHeight, minScratch};
-ghost use Rattle.join.specs.Join.{rowsOf};
-ghost use Rattle.join.specs.Writing.{fromOn};
-ghost use Rattle.figure.specs.Line.{withLF, shown};
-ghost use Rattle.figure.specs.Scratch.{scratchLine};
+ghost use Rattle.blocks.specs.Block.{rowsOf};
+ghost use Rattle.blocks.specs.Writing.{fromOn};
+ghost use Rattle.showing.specs.Output.{withLF, shown};
+ghost use Rattle.showing.specs.Scratch.{scratchLine};
 ghost use Rattle.checking.specs.declared.Compared.the-variants.{Same};
 ghost use Rattle.checking.specs.Difference.{firstDifference};
 ghost use Rattle.checking.specs.Verdict.{named, lineChecked};
@@ -93,7 +93,7 @@ pub fn compare_line(area: &[u8], mode: Mode, w: usize, h: usize, figure: &[u8]) 
 {
     let direction = mode.direction;
     let hardblank = mode.hardblank;
-    let from = figure::line_start(direction, w);
+    let from = showing::line_start(direction, w);
     compare_rows(area, from, w, hardblank, h, figure)
 }
 

@@ -13,16 +13,16 @@ use borrow.Author.Tests.{ltb-false}
 use Rattle.ground.specs.Limits.{maxLineWidth, maxText}
 use Rattle.ground.specs.Refusals.{refusal, lineTooWide, areaTooSmall}
 use Rattle.ground.specs.declared.refusals.Refusal.{Refusal}
-use Rattle.join.specs.Join.{Block}
-use Rattle.figure.specs.Line.{outputOf}
-use Rattle.drawing.specs.declared.Files.{Files}
-use Rattle.drawing.specs.declared.Files.the-variants as files
-use Rattle.figure.specs.declared.PutAnswer.the-variants as put
+use Rattle.blocks.specs.Block.{Block}
+use Rattle.showing.specs.Output.{outputOf}
+use Rattle.bothfiles.specs.declared.Files.{Files}
+use Rattle.bothfiles.specs.declared.Files.the-variants as files
+use Rattle.showing.specs.declared.PutAnswer.the-variants as put
 use Rattle.source.specs.declared.Counts.{Counts}
 use Rattle.drawing.specs.declared.DrawAnswer.{DrawAnswer}
 use Rattle.drawing.specs.declared.DrawAnswer.the-variants.{Drawn, Refused}
 use Rattle.drawing.specs.Drawing.{Lined, unlined, linedOf, withCounts, linedAnswer, PutOut}
-use Rattle.drawing.specs.Held.{FilesHeld}
+use Rattle.bothfiles.specs.Held.{FilesHeld}
 use Rattle.source.proofs.CharacterLaws.{few-rows}
 use Rattle.drawing.proofs.OutputLaws.{text-long, text-lined}
 use Rattle.console.specs.Rows.{RowsFit}

@@ -2,8 +2,8 @@
 -- Assumes nothing.
 use Prim.Native.Nat.{ℕ, _+_, _*_, _≤_}
 use Rattle.ground.specs.Limits.{maxHeight, maxLineWidth}
-use Rattle.drawing.specs.declared.Files.{Files}
-use Rattle.drawing.specs.declared.Files.the-variants.{Read, Refused}
+use Rattle.bothfiles.specs.declared.Files.{Files}
+use Rattle.bothfiles.specs.declared.Files.the-variants.{Read, Refused}
 
 -- How many rows a line has; none where a file is refused.
 abbrev pub heightOf : Files → ℕ

@@ -50,7 +50,7 @@ fn draw_by(font: &[u8], control: &[u8]) {
     let mut firsts = [0i32; limits::MAX_COMMANDS];
     let mut lasts = [0i32; limits::MAX_COMMANDS];
     let mut news = [0i32; limits::MAX_COMMANDS];
-    let files = drawing::read_files(
+    let files = bothfiles::read_files(
         font,
         control,
         &mut codes,

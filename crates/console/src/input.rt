@@ -1,7 +1,7 @@
 // Standard input, part by part, and the lines of each part.
 use crate::printing::print_line;
+use bothfiles::Files;
 use cutting::Step;
-use drawing::Files;
 use ground::limits;
 use libc::STDIN_FILENO;
 ghost use mathlib.Core.List.{List};
@@ -9,7 +9,7 @@ ghost use Prim.Native.Nat.{ℕ, _≤_};
 ghost use lib.ListN.{length};
 ghost use Rattle.ground.specs.Limits.{minScratch};
 ghost use Rattle.cutting.specs.Parts.{mostKept};
-ghost use Rattle.drawing.specs.Held.{FilesHeld};
+ghost use Rattle.bothfiles.specs.Held.{FilesHeld};
 
 // Prints the lines that end in a part, where `held` bytes are kept of the line that it goes on with. Answers how many are kept of the line
 // that it leaves begun.

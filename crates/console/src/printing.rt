@@ -1,6 +1,6 @@
 // What is printed of one line: its rows, or its refusal.
+use bothfiles::Files;
 use drawing::DrawAnswer;
-use drawing::Files;
 use ground::limits;
 use ground::refusals;
 use ground::refusals::Refusal;
@@ -10,7 +10,7 @@ ghost use mathlib.Core.List.{List};
 ghost use Prim.Native.Nat.{ℕ, _≤_};
 ghost use lib.ListN.{length};
 ghost use Rattle.ground.specs.Limits.{minScratch};
-ghost use Rattle.drawing.specs.Held.{FilesHeld};
+ghost use Rattle.bothfiles.specs.Held.{FilesHeld};
 ghost use Rattle.console.specs.Rows.{heightOf, RowsFit};
 
 // Room for the largest output: 32 rows of 1,000 columns, each with its LF.
@@ -66,7 +66,7 @@ fn print_wide(
     requires { ⌜ minScratch ≤ length (now area) ⌝ }
 {
     let mut out = [0u8; ROOM];
-    match drawing::draw_line(
+    match bothfiles::draw_line(
         &mut out,
         area,
         text,
@@ -105,7 +105,7 @@ pub(crate) fn print_line(
     requires { ⌜ ((control : List ℕ) × FilesHeld (now font) control files (now codes) (now starts) (now widths) (now places) (now stages) (now firsts) (now lasts) (now news)) ⌝ }
     requires { ⌜ minScratch ≤ length (now area) ⌝ }
 {
-    match drawing::draw_line(
+    match bothfiles::draw_line(
         out,
         area,
         text,

@@ -9,7 +9,8 @@ use lib.ListN.{length, take, length-take}
 use lib.Seq.{take-all, take-take}
 use Rattle.ground.specs.Text.{isLF}
 use Rattle.cutting.specs.Cut.{last, before, cut}
-use Rattle.cutting.specs.Parts.{mostKept, clipped, ended, begun, cutParts, joined}
+use Rattle.cutting.specs.Parts.{mostKept, clipped, ended, begun, cutParts}
+use Rattle.ground.specs.Runs.{joined}
 use Rattle.cutting.proofs.CutLaws.{before-none, before-more}
 
 pub clipped-length : (l : List ℕ) → length (clipped l) ≤ mostKept

@@ -33,11 +33,6 @@ unfoldable pub cutParts : List ℕ → List (List ℕ) → List (List ℕ)
 cutParts p [] = last p
 cutParts p (s ∷ ss) = ended p s ++ cutParts (begun p s) ss
 
--- The whole input.
-unfoldable pub joined : List (List ℕ) → List ℕ
-joined [] = []
-joined (s ∷ ss) = s ++ joined ss
-
 -- What a step finds in a part: the first line that ends there, after which the part goes on at `next` with no line begun; or that none
 -- ends there, and what is then kept.
 abbrev pub Steps : List ℕ → List ℕ → List ℕ → Step → Type 0

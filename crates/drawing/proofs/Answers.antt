@@ -16,11 +16,11 @@ use Rattle.ground.specs.Limits.{maxLineWidth, maxText, minScratch}
 use Rattle.ground.specs.Refusals.{refusal, tooManyCharacters, areaTooSmall, controlFileTooLong, tooManyCommands, textTooLong, lineTooWide}
 use Rattle.ground.specs.declared.refusals.Refusal.{Refusal}
 use Rattle.ground.proofs.Areas.{padded-at}
-use Rattle.subchars.specs.Pair.{blanked}
-use Rattle.join.specs.Join.{Block}
-use Rattle.join.proofs.Rows.{row-room}
-use Rattle.figure.specs.Line.{shown, outputOf, outputBytes, putOnly}
-use Rattle.figure.proofs.Showing.{too-wide, no-room, drawn, shown-byte, shown-lf, length-shown}
+use Rattle.subchars.specs.Hardblank.{blanked}
+use Rattle.blocks.specs.Block.{Block}
+use Rattle.blocks.proofs.Rows.{row-room}
+use Rattle.showing.specs.Output.{shown, outputOf, outputBytes, putOnly}
+use Rattle.showing.proofs.Showing.{too-wide, no-room, drawn, shown-byte, shown-lf, length-shown}
 use Rattle.header.specs.declared.Header.{Header}
 use Rattle.chars.specs.declared.Entry.{Entry}
 use Rattle.font.specs.Font as font
@@ -28,7 +28,7 @@ use Rattle.font.proofs.ReadingLaws.{font-refusal}
 use Rattle.flc.specs.declared.Command.{Command}
 use Rattle.flc.specs.Control as flc
 use Rattle.flc.proofs.RefusalLaws.{control-refusal}
-use Rattle.figure.specs.declared.PutAnswer.{PutAnswer}
+use Rattle.showing.specs.declared.PutAnswer.{PutAnswer}
 use Rattle.source.specs.declared.Counts.{Counts}
 use Rattle.drawing.specs.declared.DrawAnswer.{DrawAnswer}
 use Rattle.drawing.specs.declared.DrawAnswer.the-variants.{Drawn, Refused}

@@ -6,18 +6,20 @@ use Prim.Native.Nat.{ℕ, _≤_}
 use mathlib.Core.List.{List}
 use native.Mathlib.Omega.{arith}
 use Rattle.subchars.specs.declared.Mode.{Mode}
-use Rattle.join.specs.Join.{Block}
-use Rattle.join.proofs.Likeness.{like-same, like-trans}
+use Rattle.blocks.specs.Block.{Block}
+use Rattle.blocks.proofs.Likeness.{like-same, like-trans}
 use Rattle.figure.specs.Line.{attached}
-use Rattle.figure.specs.Scratch.{scratchLine, characterAt, RowsIn, HoldsLine}
+use Rattle.showing.specs.Scratch.{scratchLine}
+use Rattle.laying.specs.Laying.{characterAt, RowsIn}
+use Rattle.figure.specs.Drawn.{HoldsLine}
 use Rattle.figure.proofs.Folding.{attached-like}
 use Rattle.ground.specs.Limits.{maxFontLength}
 use Rattle.source.specs.declared.Chosen.{Chosen}
 use Rattle.source.specs.declared.Chosen.the-variants as chosen
 use Rattle.source.specs.declared.Picked.{Picked}
-use Rattle.source.specs.declared.two.Which.{Which}
-use Rattle.source.specs.declared.two.Which.the-variants.{First, Second}
-use Rattle.source.specs.TwoFonts.{bytesIn}
+use Rattle.fontlists.specs.declared.two.Which.{Which}
+use Rattle.fontlists.specs.declared.two.Which.the-variants.{First, Second}
+use Rattle.fontlists.specs.TwoFonts.{bytesIn}
 use Rattle.source.specs.Source.{Choice, found, stoodIn, nothing}
 use Rattle.source.specs.Steps.{Shows, ChosenAs, PickedAs}
 use Rattle.drawing.specs.Steps.{withCharacter, Reached}

@@ -11,15 +11,16 @@ use Rattle.ground.specs.Area.{values}
 use Rattle.ground.specs.Text.{byte}
 use Rattle.subchars.specs.declared.Code.{Code}
 use Rattle.subchars.specs.declared.Mode.{Mode}
-use Rattle.join.specs.Join.{Block, rowsOf}
-use Rattle.figure.specs.Line.{attached, empty, lineFrom, overlapsFrom, shown}
+use Rattle.blocks.specs.Block.{Block, rowsOf}
+use Rattle.figure.specs.Line.{attached, empty, lineFrom, overlapsFrom}
+use Rattle.showing.specs.Output.{shown}
 use Rattle.figure.proofs.Turning.{over-le, attached-wide}
 use Rattle.chars.specs.Codes.{code}
 use Rattle.source.specs.Source.{Choice, found, stoodIn, nothing, Source}
 use Rattle.source.specs.Counting.{isNothing, one, howMany, countsOf, counted}
 use Rattle.source.proofs.CountLaws.{counts-more}
 use Rattle.flc.specs.declared.Command.{Command}
-use Rattle.flc.specs.Mapping.{mapStages}
+use Rattle.mapping.specs.Mapping.{mapStages}
 use Rattle.drawing.specs.Drawing.{codesOf, mappedCodes, textCodes, withChoice, charactersOf, byteChoice, lineOf, traceOf}
 use Rattle.drawing.specs.Steps.{withCharacter}
 

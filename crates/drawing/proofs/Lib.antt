@@ -3,7 +3,6 @@ pub mod CharacterLaws
 pub mod TextLaws
 pub mod OutputLaws
 pub mod SizeLaws
-pub mod HeldLaws
 pub mod DrawingLaws
 pub mod Answers
 pub mod SourceAnswers

@@ -15,16 +15,16 @@ use Rattle.ground.specs.Refusals.{refusal, textTooLong, lineTooWide}
 use Rattle.ground.specs.declared.refusals.Refusal.{Refusal}
 use Rattle.subchars.specs.declared.Code.{Code}
 use Rattle.subchars.specs.declared.Mode.{Mode}
-use Rattle.join.specs.Join.{Block}
-use Rattle.figure.specs.Line.{outputOf, outputBytes}
-use Rattle.figure.specs.Scratch.{scratchLine}
-use Rattle.figure.proofs.Showing.{too-wide, no-bytes, output-like, bytes-like}
+use Rattle.blocks.specs.Block.{Block}
+use Rattle.showing.specs.Output.{outputOf, outputBytes}
+use Rattle.showing.specs.Scratch.{scratchLine}
+use Rattle.showing.proofs.Showing.{too-wide, no-bytes, output-like, bytes-like}
 use Rattle.header.specs.declared.Header.{Header}
 use Rattle.chars.specs.declared.Entry.{Entry}
 use Rattle.font.specs.Font as font
 use Rattle.flc.specs.declared.Command.{Command}
 use Rattle.flc.specs.Control as flc
-use Rattle.figure.specs.declared.PutAnswer.{PutAnswer}
+use Rattle.showing.specs.declared.PutAnswer.{PutAnswer}
 use Rattle.source.specs.declared.Counts.{Counts}
 use Rattle.source.specs.Source.{Source, fontSource}
 use Rattle.source.specs.Counting.{countsOf}
@@ -93,6 +93,11 @@ module _ (y : Mode) (h : ℕ) (source : Source) (control text : List ℕ) (cs : 
 pub font-lined : (s control text : List ℕ) (h : Header) (es : List Entry) → font.reading s ≡ font.says h es → linedOf s control text ≡ linedFrom (modeOf h) (h .height) (fontSource s es) (flc.control control) text
 unfolding linedOf
 font-lined s control text h es font-said = ap (λ (f : font.FontReading). linedBy s f (flc.control control) text) font-said
+
+-- A font that is refused has no line.
+pub font-unlined : (s control text : List ℕ) (r : Refusal) → font.reading s ≡ font.refuses r → linedOf s control text ≡ unlined r
+unfolding linedOf
+font-unlined s control text r refused = ap (λ (f : font.FontReading). linedBy s f (flc.control control) text) refused
 
 module _ (s control text : List ℕ) (h : Header) (es : List Entry) (cs : List Command) (k : ℕ) (font-said : font.reading s ≡ font.says h es) (control-said : flc.control control ≡ flc.reads cs k) where
   pub text-long : maxText < length text → linedOf s control text ≡ unlined (refusal textTooLong 0)

@@ -11,9 +11,9 @@ use Rattle.ground.specs.Limits.{maxLineWidth, maxText}
 use Rattle.ground.specs.Refusals.{refusal, areaTooSmall, textTooLong, lineTooWide}
 use Rattle.ground.specs.declared.refusals.Refusal.{Refusal}
 use Rattle.subchars.specs.declared.Mode.{Mode}
-use Rattle.join.specs.Join.{Block}
-use Rattle.figure.specs.Line.{outputOf}
-use Rattle.figure.proofs.Showing.{too-wide, no-room, drawn}
+use Rattle.blocks.specs.Block.{Block}
+use Rattle.showing.specs.Output.{outputOf}
+use Rattle.showing.proofs.Showing.{too-wide, no-room, drawn}
 use Rattle.flc.specs.declared.Command.{Command}
 use Rattle.flc.specs.Control as flc
 use Rattle.source.specs.declared.Counts.{Counts}

@@ -9,11 +9,11 @@ use native.Mathlib.Numerals.{add-one}
 use lib.ListN.{length, drop, getD, drop-of-length-le}
 use lib.Seq.{drop-cons}
 use Rattle.subchars.specs.declared.Mode.{Mode}
-use Rattle.join.specs.Join.{Block}
-use Rattle.join.proofs.Likeness.{like-trans}
-use Rattle.join.specs.Writing.{Like}
+use Rattle.blocks.specs.Block.{Block}
+use Rattle.blocks.proofs.Likeness.{like-trans}
+use Rattle.blocks.specs.Writing.{Like}
 use Rattle.figure.specs.Line.{empty, lineFrom}
-use Rattle.figure.specs.Scratch.{scratchLine}
+use Rattle.showing.specs.Scratch.{scratchLine}
 use Rattle.figure.proofs.Folding.{from-like, grows}
 use Rattle.source.specs.Source.{Choice, found, stoodIn, nothing, Source}
 use Rattle.source.specs.Counting.{isMissing, one, howMany}

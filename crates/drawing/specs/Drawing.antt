@@ -17,10 +17,11 @@ use Rattle.subchars.specs.declared.Direction.{Direction}
 use Rattle.subchars.specs.declared.Direction.the-variants.{LeftToRight}
 use Rattle.subchars.specs.declared.Mode.{Mode}
 use Rattle.subchars.specs.Layouts.{printDirection}
-use Rattle.join.specs.Join.{Block}
-use Rattle.figure.specs.declared.PutAnswer.{PutAnswer}
-use Rattle.figure.specs.declared.PutAnswer.the-variants as put
-use Rattle.figure.specs.Line.{empty, lineFrom, overlapsFrom, outputOf, outputBytes}
+use Rattle.blocks.specs.Block.{Block}
+use Rattle.showing.specs.declared.PutAnswer.{PutAnswer}
+use Rattle.showing.specs.declared.PutAnswer.the-variants as put
+use Rattle.figure.specs.Line.{empty, lineFrom, overlapsFrom}
+use Rattle.showing.specs.Output.{outputOf, outputBytes}
 use Rattle.header.specs.declared.Given.{Given}
 use Rattle.header.specs.declared.Given.the-variants.{Absent, Of}
 use Rattle.header.specs.declared.Header.{Header}
@@ -32,7 +33,7 @@ use Rattle.source.specs.Source.{Choice, found, stoodIn, nothing, Source, fontSo
 use Rattle.source.specs.Counting.{countsOf}
 use Rattle.flc.specs.declared.Command.{Command}
 use Rattle.flc.specs.Control as flc
-use Rattle.flc.specs.Mapping.{mapStages}
+use Rattle.mapping.specs.Mapping.{mapStages}
 use Rattle.drawing.specs.declared.DrawAnswer.{DrawAnswer}
 use Rattle.drawing.specs.declared.DrawAnswer.the-variants.{Drawn, Refused}
 

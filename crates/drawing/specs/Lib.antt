@@ -1,4 +1,3 @@
--- The meaning of drawing, and what the lists of a font and of a control file hold of it.
+-- The meaning of drawing.
 pub mod Drawing
-pub mod Held
 pub mod Steps

@@ -5,10 +5,10 @@ use Prim.Native.Nat.{ℕ, _<_, _≤_}
 use mathlib.Core.List.{List}
 use lib.ListN.{length}
 use Rattle.subchars.specs.declared.Mode.{Mode}
-use Rattle.join.specs.Join.{Block}
-use Rattle.join.specs.Writing.{Like}
+use Rattle.blocks.specs.Block.{Block}
+use Rattle.blocks.specs.Writing.{Like}
 use Rattle.figure.specs.Line.{attached}
-use Rattle.figure.specs.Scratch.{scratchLine}
+use Rattle.showing.specs.Scratch.{scratchLine}
 use Rattle.subchars.specs.declared.Code.{Code}
 use Rattle.source.specs.Source.{Choice, found, stoodIn, nothing, Source}
 use Rattle.source.specs.Counting.{isMissing, howMany}

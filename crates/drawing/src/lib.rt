@@ -1,19 +1,16 @@
-// Drawing a line of text from a font and a control file that were read once.
-use figure::PutAnswer;
+// Drawing a line of text from a source of characters, by a control file.
 use flc::ControlAnswer;
-use flc::mapping;
+use fontlists::two;
 use ground::limits;
 use ground::refusals;
 use ground::refusals::Refusal;
 use header::Given;
 use header::Header;
-use index::latest;
-use reader::FontAnswer;
+use showing::PutAnswer;
 use source::Chosen;
 use source::Counts;
 use source::Origin;
 use source::Picked;
-use source::two;
 use subchars::Code;
 use subchars::Direction;
 use subchars::Mode;
@@ -22,23 +19,18 @@ ghost use mathlib.Core.List.{List};
 ghost use Prim.Native.Nat.{ℕ, _<_, _≤_};
 ghost use lib.IntN.{pos};
 ghost use lib.ListN.{length};
-ghost use Rattle.ground.specs.Area.{zeros};
-ghost use Rattle.ground.specs.Limits.{maxLineWidth, maxHeight, maxCharacters, maxCommands, minScratch};
+ghost use Rattle.ground.specs.Limits.{maxLineWidth, maxHeight, minScratch};
 ghost use Rattle.subchars.specs.declared.Code.{Code};
 ghost use Rattle.chars.specs.Codes.{code};
-ghost use Rattle.index.specs.Index.{CharacterRoom};
-ghost use Rattle.index.specs.Latest.{smallCodes};
-ghost use Rattle.join.specs.Writing.{RowAfterRow};
-ghost use Rattle.figure.specs.Scratch.{scratchLine};
+ghost use Rattle.blocks.specs.Writing.{RowAfterRow};
+ghost use Rattle.showing.specs.Scratch.{scratchLine};
 ghost use Rattle.flc.specs.Control as flc;
-ghost use Rattle.flc.specs.Passing.{ControlHeld};
-ghost use Rattle.flc.specs.Filling.{CommandRoom};
+ghost use Rattle.mapping.specs.Passing.{ControlHeld};
 ghost use Rattle.source.specs.Source.{Choice, Source};
 ghost use Rattle.source.specs.Counting.{countsOf};
 ghost use Rattle.source.specs.Held.{Gives};
 ghost use Rattle.source.specs.Steps.{ChosenAs, PickedAs};
-ghost use Rattle.drawing.specs.Drawing.{directionOf, modeOf, textCodes, byteChoice, lineOf, Lined, linedText, linedFrom, linedOf, drawLined, withCounts, PutOut};
-ghost use Rattle.drawing.specs.Held.{filesOf, FilesHeld};
+ghost use Rattle.drawing.specs.Drawing.{directionOf, modeOf, textCodes, byteChoice, lineOf, Lined, linedText, linedFrom, withCounts, PutOut};
 ghost use Rattle.drawing.specs.Steps.{withCharacter, Reached, TextDrawn};
 
 // What drawing answers: the width of the line, how many text bytes were stood in and how many drew nothing; or a refusal.
@@ -51,16 +43,6 @@ pub enum DrawAnswer {
 pub struct DrawnText {
     pub width: usize,
     pub missing: usize,
-}
-
-// What reading both files gave: the font's header and how many characters and commands the lists hold; or the refusal of one of the files.
-pub enum Files {
-    Read {
-        header: Header,
-        count: usize,
-        commands: usize,
-    },
-    Refused(Refusal),
 }
 
 // The direction of a header: left to right where Print_Direction is absent.
@@ -187,7 +169,7 @@ pub fn join_text<'a>(
     requires { ⌜ (limit ≤ maxLineWidth) × (minScratch ≤ length (now area)) ⌝ }
     ensures { λ d. ⌜ ((source : Source) (given : Gives source (now (font .entry)) (now (second .entry)) height origin (now (codes .entry)) (now (starts .entry)) (now (widths .entry)) (now (places .entry))) (control : List ℕ) (held : ControlHeld control commands (now (stages .entry)) (now (firsts .entry)) (now (lasts .entry)) (now (news .entry))) → TextDrawn mode height limit source (textCodes (held .commands) (held .count) (now (text .entry))) d (now (area .exit))) ⌝ }
 {
-    let rows = join::row_starts(limits::MAX_LINE_WIDTH, height);
+    let rows = blocks::row_starts(limits::MAX_LINE_WIDTH, height);
     let mut found = [0usize; limits::MAX_HEIGHT];
     let mut n: usize = 0;
     let mut missing: usize = 0;
@@ -253,7 +235,7 @@ fn put_out(
     requires { ⌜ (height ≤ maxHeight) × (minScratch ≤ length (now area)) ⌝ }
     ensures { λ a. ⌜ ((source : Source) (codes : List Code) → Reached mode height maxLineWidth w (now (area .entry)) (lineOf mode height source codes) → (w ≤ maxLineWidth → counts ≡ countsOf source codes) → PutOut (linedText mode height source codes) (length (now (out .entry))) a (now (out .exit))) ⌝ }
 {
-    let answer = figure::put_out(out, area, mode, w, height);
+    let answer = showing::put_out(out, area, mode, w, height);
     with_counts(counts, answer)
 }
 
@@ -370,182 +352,4 @@ pub fn draw_mapped<'a>(
         ),
         ControlAnswer::Refused(r) => refuse(r, out),
     }
-}
-
-// Draws a text by what reading the files gave; the lists hold it. Nothing is promised of what the area then holds.
-pub fn draw_line(
-    out: &mut [u8],
-    area: &mut [u8],
-    text: &[u8],
-    font: &[u8],
-    files: Files,
-    codes: &[i32],
-    starts: &[usize],
-    widths: &[usize],
-    places: &[usize],
-    stages: &[usize],
-    firsts: &[i32],
-    lasts: &[i32],
-    news: &[i32],
-) -> DrawAnswer
-    requires { ⌜ ((control : List ℕ) × FilesHeld (now font) control files (now codes) (now starts) (now widths) (now places) (now stages) (now firsts) (now lasts) (now news)) ⌝ }
-    requires { ⌜ minScratch ≤ length (now area) ⌝ }
-    ensures { λ a. ⌜ ((control : List ℕ) → FilesHeld (now (font .entry)) control files (now (codes .entry)) (now (starts .entry)) (now (widths .entry)) (now (places .entry)) (now (stages .entry)) (now (firsts .entry)) (now (lasts .entry)) (now (news .entry)) → PutOut (linedOf (now (font .entry)) control (now (text .entry))) (length (now (out .entry))) a (now (out .exit))) ⌝ }
-{
-    match files {
-        Files::Read {
-            header,
-            count,
-            commands,
-        } => draw_from(
-            out,
-            area,
-            text,
-            mode_of(header),
-            header.height,
-            font,
-            font,
-            Origin::Font { count },
-            codes,
-            starts,
-            widths,
-            places,
-            commands,
-            stages,
-            firsts,
-            lasts,
-            news,
-        ),
-        Files::Refused(r) => refuse(r, out),
-    }
-}
-
-// Both answers as one; the font's refusal comes first.
-fn files_of(font: FontAnswer, control: ControlAnswer) -> Files
-    ensures { λ r. ⌜ r ≡ filesOf font control ⌝ }
-{
-    match font {
-        FontAnswer::Read { header, count } => match control {
-            ControlAnswer::Read {
-                commands,
-                stages: _,
-            } => Files::Read {
-                header,
-                count,
-                commands,
-            },
-            ControlAnswer::Refused(r) => Files::Refused(r),
-        },
-        FontAnswer::Refused(r) => Files::Refused(r),
-    }
-}
-
-// Reads a font and a control file once, for any number of texts.
-pub fn read_files(
-    font: &[u8],
-    control: &[u8],
-    codes: &mut [i32],
-    starts: &mut [usize],
-    widths: &mut [usize],
-    places: &mut [usize],
-    stages: &mut [usize],
-    firsts: &mut [i32],
-    lasts: &mut [i32],
-    news: &mut [i32],
-) -> Files
-    requires { ⌜ CharacterRoom maxCharacters (now codes) (now starts) (now widths) ⌝ }
-    requires { ⌜ length (now places) ≡ smallCodes ⌝ }
-    requires { ⌜ CommandRoom maxCommands (now stages) (now firsts) (now lasts) (now news) ⌝ }
-    ensures { λ r. ⌜ FilesHeld (now (font .entry)) (now (control .entry)) r (now (codes .exit)) (now (starts .exit)) (now (widths .exit)) (now (places .exit)) (now (stages .exit)) (now (firsts .exit)) (now (lasts .exit)) (now (news .exit)) ⌝ }
-{
-    let f = source::read_font(font, codes, starts, widths, places);
-    let c = flc::read_lists(control, stages, firsts, lasts, news);
-    files_of(f, c)
-}
-
-// Reads both files and draws one text.
-fn draw_once(
-    out: &mut [u8],
-    area: &mut [u8],
-    text: &[u8],
-    font: &[u8],
-    control: &[u8],
-) -> DrawAnswer
-    requires { ⌜ minScratch ≤ length (now area) ⌝ }
-    ensures { λ a. ⌜ PutOut (linedOf (now (font .entry)) (now (control .entry)) (now (text .entry))) (length (now (out .entry))) a (now (out .exit)) ⌝ }
-{
-    let mut codes = [0i32; limits::MAX_CHARACTERS];
-    let mut starts = [0usize; limits::MAX_CHARACTERS];
-    let mut widths = [0usize; limits::MAX_CHARACTERS];
-    let mut places = [0usize; latest::SMALL_CODES];
-    let mut stages = [0usize; limits::MAX_COMMANDS];
-    let mut firsts = [0i32; limits::MAX_COMMANDS];
-    let mut lasts = [0i32; limits::MAX_COMMANDS];
-    let mut news = [0i32; limits::MAX_COMMANDS];
-    let files = read_files(
-        font,
-        control,
-        &mut codes,
-        &mut starts,
-        &mut widths,
-        &mut places,
-        &mut stages,
-        &mut firsts,
-        &mut lasts,
-        &mut news,
-    );
-    draw_line(
-        out,
-        area,
-        text,
-        font,
-        files,
-        &codes,
-        &starts,
-        &widths,
-        &places,
-        &stages,
-        &firsts,
-        &lasts,
-        &news,
-    )
-}
-
-// 9 for a scratch under 32,000 bytes; otherwise the drawing, which leaves anything in the scratch.
-fn draw_tested(
-    out: &mut [u8],
-    scratch: &mut [u8],
-    text: &[u8],
-    font: &[u8],
-    control: &[u8],
-) -> DrawAnswer
-    ensures { λ a. ⌜ PutOut (drawLined (length (now (scratch .entry))) (now (font .entry)) (now (control .entry)) (now (text .entry))) (length (now (out .entry))) a (now (out .exit)) ⌝ }
-{
-    if scratch.len() < limits::MIN_SCRATCH {
-        return refuse(
-            Refusal {
-                number: refusals::AREA_TOO_SMALL,
-                place: 0,
-            },
-            out,
-        );
-    }
-    draw_once(out, scratch, text, font, control)
-}
-
-// Draws a text by a font and a control file: 9 for the scratch, the font's, the control file's, 15, 16, then 9 for the output. The scratch is all zeros
-// afterwards.
-pub fn draw(
-    font: &[u8],
-    control: &[u8],
-    text: &[u8],
-    scratch: &mut [u8],
-    out: &mut [u8],
-) -> DrawAnswer
-    ensures { λ a. ⌜ PutOut (drawLined (length (now (scratch .entry))) (now (font .entry)) (now (control .entry)) (now (text .entry))) (length (now (out .entry))) a (now (out .exit)) ⌝ }
-    ensures { λ a. ⌜ now (scratch .exit) ≡ zeros (length (now (scratch .entry))) ⌝ }
-{
-    let answer = draw_tested(out, scratch, text, font, control);
-    ground::zero_from(scratch, 0);
-    answer
 }

@@ -13,8 +13,9 @@ use Rattle.ground.specs.Limits.{maxText, maxLineWidth, minScratch}
 use Rattle.ground.specs.Refusals.{refusal, tooManyCharacters, areaTooSmall, controlFileTooLong, tooManyCommands, textTooLong, lineTooWide, wrongLength}
 use Rattle.ground.specs.declared.refusals.Refusal.{Refusal}
 use Rattle.ground.proofs.Tests.{clash}
-use Rattle.join.specs.Join.{Block}
-use Rattle.figure.specs.Line.{empty, overlapWith, lineFrom, overlapsFrom, shown}
+use Rattle.blocks.specs.Block.{Block}
+use Rattle.figure.specs.Line.{empty, overlapWith, lineFrom, overlapsFrom}
+use Rattle.showing.specs.Output.{shown}
 use Rattle.header.specs.declared.Header.{Header}
 use Rattle.chars.specs.declared.Entry.{Entry}
 use Rattle.font.specs.Font as font

@@ -1,29 +1,27 @@
 -- What a check of a drawing comes to, case by case.
 -- Assumes nothing.
-use mathlib.Core.Path.{_≡_, refl, sym, ap, ap₂, _∙_}
-use mathlib.Core.Bool.{Bool, true, false, cond}
+use mathlib.Core.Path.{_≡_, sym, ap, _∙_}
+use mathlib.Core.Bool.{Bool, cond}
 use mathlib.Core.List.{List, []}
 use Prim.Native.Nat.{ℕ, _≤_, _<_}
 use native.Mathlib.Omega.{arith}
 use native.Mathlib.Decide.{decLt}
-use lib.Dec.{ltb}
 use lib.ListN.{length}
 use borrow.Author.Tests.{lt-ltb, le-ltb}
 use Rattle.ground.specs.Limits.{maxText, maxLineWidth, minScratch}
-use Rattle.ground.specs.Refusals.{refusal, areaTooSmall, textTooLong, lineTooWide}
+use Rattle.ground.specs.Refusals.{refusal, areaTooSmall, textTooLong}
 use Rattle.ground.specs.declared.refusals.Refusal.{Refusal}
 use Rattle.ground.proofs.Tests.{clash}
 use Rattle.subchars.specs.declared.Code.{Code}
 use Rattle.subchars.specs.declared.Mode.{Mode}
-use Rattle.join.specs.Join.{Block}
-use Rattle.figure.specs.Scratch.{scratchLine}
+use Rattle.showing.specs.Scratch.{scratchLine}
 use Rattle.header.specs.declared.Header.{Header}
 use Rattle.chars.specs.declared.Entry.{Entry}
 use Rattle.font.specs.Font as font
 use Rattle.flc.specs.declared.Command.{Command}
 use Rattle.flc.specs.Control as flc
 use Rattle.source.specs.Source.{Source, fontSource}
-use Rattle.drawing.specs.Drawing.{textCodes, lineOf, traceOf, modeOf, Lined, unlined, linedBy, linedOf, draws, refuses}
+use Rattle.drawing.specs.Drawing.{textCodes, lineOf, traceOf, modeOf, unlined, linedBy, linedOf, draws, refuses}
 use Rattle.drawing.specs.Steps.{Reached}
 use Rattle.checking.specs.declared.CheckAnswer.{CheckAnswer}
 use Rattle.checking.specs.declared.CheckAnswer.the-variants.{Refused}

@@ -1,30 +1,29 @@
 -- One code of a text more: what was chosen for it has its overlap in the trace, and what is left to do leads to the trace of the text.
 -- Assumes nothing.
-use mathlib.Core.Path.{_≡_, refl, sym, ap, _∙_, subst}
-use mathlib.Core.Bool.{Bool, true, false}
-use mathlib.Core.List.{List, [], _∷_, _++_}
-use Prim.Native.Nat.{ℕ, _+_, _-_, _≤_, _<_, min}
+use mathlib.Core.Path.{_≡_, refl, ap, _∙_, subst}
+use mathlib.Core.Bool.{true, false}
+use mathlib.Core.List.{List, [], _∷_}
+use Prim.Native.Nat.{ℕ, _+_, _-_, _≤_, _<_}
 use native.Mathlib.Omega.{arith}
 use lib.ListN.{length, drop, getD, length-append, drop-of-length-le}
-use Rattle.subchars.specs.declared.Code.{Code}
 use Rattle.subchars.specs.declared.Mode.{Mode}
-use Rattle.join.specs.Join.{Block}
-use Rattle.join.specs.Writing.{Like}
-use Rattle.figure.specs.Line.{empty, attached, overlapWith, overlapsFrom}
-use Rattle.figure.specs.Scratch.{scratchLine}
+use Rattle.blocks.specs.Block.{Block}
+use Rattle.blocks.specs.Writing.{Like}
+use Rattle.figure.specs.Line.{attached, overlapWith}
+use Rattle.showing.specs.Scratch.{scratchLine}
 use Rattle.figure.proofs.Turning.{over-le, attached-wide}
 use Rattle.source.specs.declared.Chosen.{Chosen}
 use Rattle.source.specs.declared.Chosen.the-variants as chosen
 use Rattle.source.specs.Source.{Choice, found, stoodIn, nothing, Source}
 use Rattle.source.specs.Steps.{Shows, ChosenAs}
 use Rattle.flc.specs.declared.Command.{Command}
-use Rattle.drawing.specs.Drawing.{codesOf, mappedCodes, textCodes, withChoice, charactersOf, byteChoice, lineOf, traceOf}
-use Rattle.drawing.specs.Steps.{withCharacter, Reached}
+use Rattle.drawing.specs.Drawing.{codesOf, mappedCodes, textCodes, withChoice, charactersOf, byteChoice, traceOf}
+use Rattle.drawing.specs.Steps.{withCharacter}
 use Rattle.drawing.proofs.TextLaws.{rest-more}
 use Rattle.checking.specs.declared.Tally.{Tally}
 use Rattle.checking.specs.Steps.{tallied}
 use Rattle.checking.proofs.TraceLaws.{TraceToward, trace-first, trace-next, trace-same, trace-end}
-use Rattle.drawingcheck.specs.Steps.{Grows, withChosen}
+use Rattle.drawingcheck.specs.Steps.{GrowsBy, withChosen}
 
 -- A character b that is shown m wide, joined to a line of n columns, makes it one of w: the overlap is what both widths have more.
 module _ (y : Mode) (h : ℕ) (s at : List ℕ) (line line′ b : Block) (m : ℕ) (so : Shows s at m h b) (like : Like h line′ (attached y h line b)) where
@@ -35,7 +34,7 @@ module _ (y : Mode) (h : ℕ) (s at : List ℕ) (line line′ b : Block) (m : �
   wide-enough = omega (arith, so .like .width, like .width, attached-wide y h line b)
 
 module _ (y : Mode) (h : ℕ) (s at : List ℕ) (line line′ : Block) where
-  pub chosen-grows : (r : Chosen) (x : Choice) → ChosenAs s at h r x → Like h line′ (withCharacter y h x line) → Grows r (line .width) (line′ .width)
+  pub chosen-grows : (r : Chosen) (x : Choice) → ChosenAs s at h r x → Like h line′ (withCharacter y h x line) → GrowsBy r (line .width) (line′ .width)
   chosen-grows (chosen.Character m true) (found b) z l = (wide-enough y h s at line line′ b m z l, z .narrow)
   chosen-grows (chosen.Character m true) (stoodIn b) z l = absurd z
   chosen-grows (chosen.Character m true) nothing z l = absurd z
@@ -89,7 +88,7 @@ module _ (y : Mode) (h : ℕ) (source : Source) (cs : List Command) (k : ℕ) (t
 
     -- one byte more, for which r was chosen in bytes s; the line is then w wide
     module _ (u : i < length text) (s at : List ℕ) (r : Chosen) (z : ChosenAs s at h r (byteChoice source cs k (getD text i 0))) (w : ℕ) (area′ : List ℕ) (like : Like h (scratchLine (y .direction) w area′) (withCharacter y h (byteChoice source cs k (getD text i 0)) (scratchLine (y .direction) n area))) where
-      pub traced-grows : Grows r n w
+      pub traced-grows : GrowsBy r n w
       traced-grows = chosen-grows y h s at (scratchLine (y .direction) n area) (scratchLine (y .direction) w area′) r (byteChoice source cs k (getD text i 0)) z like
 
       pub traced-next : (tally′ : Tally) → ((trace : List ℕ) → tally ≡ tallied overlaps trace → tally′ ≡ tallied overlaps (withChosen r n w trace)) → Traced tally′ area′ w (i + 1)

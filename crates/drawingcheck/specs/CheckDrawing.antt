@@ -5,7 +5,6 @@ use mathlib.Core.Bool.{cond}
 use mathlib.Core.List.{List}
 use Prim.Native.Nat.{ℕ}
 use lib.Dec.{ltb}
-use lib.ListN.{length}
 use Rattle.ground.specs.Limits.{minScratch}
 use Rattle.ground.specs.Refusals.{refusal, areaTooSmall}
 use Rattle.subchars.specs.declared.Code.{Code}

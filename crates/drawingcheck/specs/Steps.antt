@@ -15,9 +15,9 @@ use Rattle.checking.specs.Steps.{tallied}
 use Rattle.drawingcheck.specs.declared.TextChecked.{TextChecked}
 
 -- What was chosen makes a line of n columns one of w: it was joined at the overlap that both widths lack.
-abbrev pub Grows : Chosen → ℕ → ℕ → Type 0
-Grows (Character m own) n w = (w ≤ n + m) × (m ≤ maxFontLength)
-Grows Nothing n w = Unit
+abbrev pub GrowsBy : Chosen → ℕ → ℕ → Type 0
+GrowsBy (Character m own) n w = (w ≤ n + m) × (m ≤ maxFontLength)
+GrowsBy Nothing n w = Unit
 
 abbrev pub withChosen : Chosen → ℕ → ℕ → List ℕ → List ℕ
 withChosen (Character m own) n w trace = trace ++ ((n + m - w) ∷ [])

@@ -1,7 +1,7 @@
 // Another program's drawing of a text, checked against the font's.
+use bothfiles::Files;
 use checking::CheckAnswer;
 use checking::Tally;
-use drawing::Files;
 use ground::limits;
 use ground::refusals;
 use ground::refusals::Refusal;
@@ -14,16 +14,16 @@ ghost use mathlib.Core.List.{List};
 ghost use Prim.Native.Nat.{ℕ, _≤_, _<_, _^_};
 ghost use lib.ListN.{length};
 ghost use Rattle.ground.specs.Area.{zeros};
-ghost use Rattle.ground.specs.Limits.{maxLineWidth, maxText, minScratch};
+ghost use Rattle.ground.specs.Limits.{maxLineWidth, minScratch};
 ghost use Rattle.flc.specs.Control as flc;
-ghost use Rattle.flc.specs.Passing.{ControlHeld};
+ghost use Rattle.mapping.specs.Passing.{ControlHeld};
 ghost use Rattle.source.specs.Source.{Source};
 ghost use Rattle.source.specs.Held.{Gives};
 ghost use Rattle.drawing.specs.Drawing.{textCodes};
-ghost use Rattle.drawing.specs.Held.{FilesHeld};
+ghost use Rattle.bothfiles.specs.Held.{FilesHeld};
 ghost use Rattle.checking.specs.Steps.{tallied};
 ghost use Rattle.drawingcheck.specs.CheckDrawing.{checkedFrom, checkedOf, drawingChecked};
-ghost use Rattle.drawingcheck.specs.Steps.{Grows, withChosen, CodesDrawn};
+ghost use Rattle.drawingcheck.specs.Steps.{GrowsBy, withChosen, CodesDrawn};
 
 // A text that was drawn for a check: the width of its line, and what is known of the list of overlaps.
 pub struct TextChecked {
@@ -33,7 +33,7 @@ pub struct TextChecked {
 
 // What is known of a list of overlaps with what was chosen for a code, which made a line of n columns one of w.
 fn with_chosen(tally: Tally, chosen: Chosen, n: usize, w: usize, overlaps: &[usize]) -> Tally
-    requires { ⌜ (tally .drawn < 2 ^ 63) × (n ≤ maxLineWidth) × Grows chosen n w ⌝ }
+    requires { ⌜ (tally .drawn < 2 ^ 63) × (n ≤ maxLineWidth) × GrowsBy chosen n w ⌝ }
     ensures { λ r. ⌜ ((trace : List ℕ) → tally ≡ tallied (now (overlaps .entry)) trace → r ≡ tallied (now (overlaps .entry)) (withChosen chosen n w trace)) ⌝ }
 {
     match chosen {
@@ -68,7 +68,7 @@ fn check_text(
     requires { ⌜ minScratch ≤ length (now area) ⌝ }
     ensures { λ d. ⌜ ((source : Source) → Gives source (now (font .entry)) (now (font .entry)) height origin (now (codes .entry)) (now (starts .entry)) (now (widths .entry)) (now (places .entry)) → (control : List ℕ) (held : ControlHeld control commands (now (stages .entry)) (now (firsts .entry)) (now (lasts .entry)) (now (news .entry))) → CodesDrawn mode height source (textCodes (held .commands) (held .count) (now (text .entry))) (now (overlaps .entry)) d (now (area .exit))) ⌝ }
 {
-    let rows = join::row_starts(limits::MAX_LINE_WIDTH, height);
+    let rows = blocks::row_starts(limits::MAX_LINE_WIDTH, height);
     let limit = limits::MAX_LINE_WIDTH;
     let mut found = [0usize; limits::MAX_HEIGHT];
     let mut tally = checking::none_drawn();
@@ -224,7 +224,7 @@ fn check_once(
     let mut firsts = [0i32; limits::MAX_COMMANDS];
     let mut lasts = [0i32; limits::MAX_COMMANDS];
     let mut news = [0i32; limits::MAX_COMMANDS];
-    let files = drawing::read_files(
+    let files = bothfiles::read_files(
         font,
         control,
         &mut codes,

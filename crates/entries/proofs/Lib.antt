@@ -1,10 +1,6 @@
--- The laws of the lent index, and what the proofs by hand share.
+-- The laws of the lent index as a font fills it, and what the proofs by hand ask of a local array.
 pub mod Moved
 pub mod FillLaws
-pub mod FindLaws
 pub mod RefusalLaws
 pub mod ToldApart
-pub mod Row
-pub mod Counted
 pub mod Local
-pub mod CallSmaller

@@ -1,4 +1,3 @@
--- The meaning of the lent index: how a font fills it, and which of its entries is used for a code.
+-- The meaning of the lent index: how a font fills it.
 pub mod Filling
-pub mod Finding
 pub mod Steps

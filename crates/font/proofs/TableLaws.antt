@@ -15,7 +15,7 @@ use Rattle.ground.specs.declared.refusals.Refusal.{Refusal}
 use Rattle.ground.specs.Limits.{maxFontLength, maxCharacters}
 use Rattle.ground.proofs.Tests.{clash}
 use Rattle.subchars.specs.declared.Code.{Code}
-use Rattle.subchars.specs.Pair.{legalHardblank}
+use Rattle.subchars.specs.Hardblank.{legalHardblank}
 use Rattle.lines.specs.Lines.{TextLine, linesFrom, textAt}
 use Rattle.lines.specs.Words.{isBlank, firstWord}
 use Rattle.lines.specs.Numbers.{codeNumber}

@@ -13,7 +13,7 @@ use Rattle.ground.proofs.Runs.{rest-is}
 use Rattle.subchars.specs.declared.SubCharacter.{SubCharacter}
 use Rattle.lines.specs.Words.{isBlank}
 use Rattle.header.specs.declared.HeaderStep.{HeaderStep}
-use Rattle.subchars.specs.Pair.{legalHardblank}
+use Rattle.subchars.specs.Hardblank.{legalHardblank}
 use Rattle.header.specs.Header.{parameterNumbers, refused, headerOf, afterHardblank, afterSignature, fontSignature, readHeader}
 
 abbrev subCharacter : ℕ → SubCharacter

@@ -21,7 +21,7 @@ use Rattle.header.specs.declared.Given.{Given}
 use Rattle.header.specs.declared.Header.{Header}
 use Rattle.header.specs.declared.HeaderStep.{HeaderStep}
 use Rattle.header.specs.declared.HeaderStep.the-variants.{Good, Refused}
-use Rattle.subchars.specs.Pair.{legalHardblank}
+use Rattle.subchars.specs.Hardblank.{legalHardblank}
 use Rattle.header.specs.Header.{parameterNumbers, parameters, legalParameters, given, layoutOf, header, refused, headerWith, headerOf, afterHardblank, afterSignature, fontSignature, readHeader}
 use Rattle.header.proofs.LineLaws.{no-signature, signed}
 use Rattle.header.proofs.ParameterLaws.{too-few, High, high}

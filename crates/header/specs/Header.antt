@@ -13,7 +13,7 @@ use Rattle.ground.specs.Refusals.{refusal, noSignature, badHardblank, badParame
 use Rattle.subchars.specs.declared.SubCharacter.{SubCharacter}
 use Rattle.subchars.specs.declared.Layout.{Layout}
 use Rattle.subchars.specs.Layouts.{oldLayout, fullLayout}
-use Rattle.subchars.specs.Pair.{legalHardblank}
+use Rattle.subchars.specs.Hardblank.{legalHardblank}
 use Rattle.lines.specs.Words.{isBlank, firstWord, afterWord}
 use Rattle.lines.specs.Numbers.{headerNumber, highest}
 use Rattle.lines.specs.declared.numbers.Number.{Number as Read}

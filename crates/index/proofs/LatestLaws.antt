@@ -19,7 +19,7 @@ use Rattle.index.specs.declared.Found.{Found}
 use Rattle.index.specs.declared.Found.the-variants.{At, Nowhere}
 use Rattle.index.specs.declared.latest.Small.the-variants.{Below, Beyond}
 use Rattle.index.specs.LookUp.{lastAt}
-use Rattle.index.specs.Latest.{smallCodes, smallOf, placed, Latest, Noted}
+use Rattle.index.specs.Latest.{smallCodes, smallOf, placePlusOne, Latest, Noted}
 use Rattle.index.proofs.FindLaws.{last-next}
 
 pub beyond-low : (z : ℤ) → ltZ z (pos 0) ≡ true → Beyond ≡ smallOf z
@@ -86,31 +86,31 @@ pub latest-more :
     i < length codes → Latest (take i codes) old → Noted (getD codes i (pos 0)) (i + 1) old new → Latest (take (i + 1) codes) new
 latest-more codes i old new h l n = record { size = n .size ∙ l .size; places = at }
   where
-    at : (c : ℕ) → c < smallCodes → getD new c 0 ≡ placed (lastAt (pos c) (take (i + 1) codes))
+    at : (c : ℕ) → c < smallCodes → getD new c 0 ≡ placePlusOne (lastAt (pos c) (take (i + 1) codes))
     at c k =
         let b = sameNumber (getD codes i (pos 0)) (pos c) in
         n .places c k ∙ ap (λ (p : ℕ). cond b (i + 1) p) (l .places c k) ∙ placing b (lastAt (pos c) (take i codes)) ∙
-        sym (ap placed (last-next (pos c) codes i h))
+        sym (ap placePlusOne (last-next (pos c) codes i h))
       where
-        placing : (b : Bool) (r : Found) → cond b (i + 1) (placed r) ≡ placed (cond b (At i) r)
+        placing : (b : Bool) (r : Found) → cond b (i + 1) (placePlusOne r) ≡ placePlusOne (cond b (At i) r)
         placing true r = omega arith
         placing false r = refl
 
 -- what the list tells of a small code
 module _ (codes : List ℤ) (latest : List ℕ) (z : ℤ) (c : ℕ) (l : Latest codes latest) (s : smallOf z ≡ Below c) where
-  told : getD latest c 0 ≡ placed (lastAt z codes)
-  told = l .places c (small-below z c s .1) ∙ ap (λ (y : ℤ). placed (lastAt y codes)) (sym (small-below z c s .0))
+  told : getD latest c 0 ≡ placePlusOne (lastAt z codes)
+  told = l .places c (small-below z c s .1) ∙ ap (λ (y : ℤ). placePlusOne (lastAt y codes)) (sym (small-below z c s .0))
 
   pub latest-at : 0 < getD latest c 0 → At (getD latest c 0 - 1) ≡ lastAt z codes
   latest-at p = go (lastAt z codes) told
     where
-      go : (r : Found) → getD latest c 0 ≡ placed r → At (getD latest c 0 - 1) ≡ r
+      go : (r : Found) → getD latest c 0 ≡ placePlusOne r → At (getD latest c 0 - 1) ≡ r
       go (At k) e = ap At (omega arith)
       go Nowhere e = absurd (omega arith)
 
   pub latest-nowhere : getD latest c 0 ≤ 0 → Nowhere ≡ lastAt z codes
   latest-nowhere p = go (lastAt z codes) told
     where
-      go : (r : Found) → getD latest c 0 ≡ placed r → Nowhere ≡ r
+      go : (r : Found) → getD latest c 0 ≡ placePlusOne r → Nowhere ≡ r
       go (At k) e = absurd (omega arith)
       go Nowhere e = refl

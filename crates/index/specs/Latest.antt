@@ -24,14 +24,14 @@ smallOf (pos n) = cond (ltb n smallCodes) (Below n) Beyond
 smallOf (negsuc n) = Beyond
 
 -- One more than a place; 0 for none.
-abbrev pub placed : Found → ℕ
-placed Nowhere = 0
-placed (At k) = suc k
+abbrev pub placePlusOne : Found → ℕ
+placePlusOne Nowhere = 0
+placePlusOne (At k) = suc k
 
 -- The list holds, for each small code, one more than its last place.
 pub record Latest (codes : List ℤ) (latest : List ℕ) : Type 0 where
   pub size : length latest ≡ smallCodes
-  pub places : (c : ℕ) → c < smallCodes → getD latest c 0 ≡ placed (lastAt (pos c) codes)
+  pub places : (c : ℕ) → c < smallCodes → getD latest c 0 ≡ placePlusOne (lastAt (pos c) codes)
 
 -- The list after a place is noted for a code.
 pub record Noted (code : ℤ) (place : ℕ) (old new : List ℕ) : Type 0 where

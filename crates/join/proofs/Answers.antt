@@ -8,21 +8,22 @@ use Prim.Native.Nat.{ℕ, _*_, _≤_, _<_}
 use native.Mathlib.Omega.{arith}
 use lib.Dec.{ltb, leb}
 use lib.ListN.{length}
-use borrow.Author.Tests.{lt-ltb, le-ltb, ltb-true, ltb-false, leb-true, leb-false, eqb-true, eqb-false}
+use borrow.Author.Tests.{lt-ltb, le-ltb, ltb-true, ltb-false, leb-true, leb-false}
 use Rattle.ground.specs.Limits.{maxHeight, maxLineWidth, maxCharacterWidth, maxRules}
 use Rattle.ground.specs.Refusals.{areaTooSmall, lineTooWide, badShape, refusal}
-use Rattle.ground.proofs.Tests.{and-none, and-left, and-right, and-left-false, and-right-false, never-both}
+use Rattle.ground.proofs.Tests.{and-none, and-left, and-right, never-both}
 use Rattle.subchars.specs.declared.Layout.{Layout}
 use Rattle.subchars.specs.declared.Layout.the-variants.{FullWidth, Fitting, Smushing}
 use Rattle.subchars.specs.declared.Smushing.the-variants.{Universal, Controlled}
 use Rattle.subchars.specs.declared.Mode.{Mode}
-use Rattle.subchars.specs.Pair.{legalHardblank}
-use Rattle.join.specs.Join.{Block, exactBlock, leftOf, rightOf, overlap, besides}
+use Rattle.subchars.specs.Hardblank.{legalHardblank}
+use Rattle.blocks.specs.Block.{Block, exactBlock, leftOf, rightOf}
+use Rattle.overlap.specs.Join.{overlap, besides}
 use Rattle.join.specs.Shape.{goodKind, goodLayout, goodBlock, goodShape}
 use Rattle.join.specs.declared.JoinAnswer.the-variants.{Joined, Refused}
 use Rattle.join.specs.JoinCall.{JoinTold, joinTells, refusing, toldOf, joinTold}
 use Rattle.join.proofs.GoodShape.{block-good, block-bad}
-use Rattle.join.proofs.Demand.{overlap-narrower}
+use Rattle.overlap.proofs.Demand.{overlap-narrower}
 
 -- 17: "height outside 1 to 32, line width over 1,000, character width over 199, rules outside 1 to 63 in controlled mode, a hardblank that 3
 -- refuses, or blocks not exactly height times width long".

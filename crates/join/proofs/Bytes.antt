@@ -9,9 +9,10 @@ use lib.ListN.{getD}
 use Rattle.ground.specs.Area.{padded}
 use Rattle.ground.proofs.Areas.{padded-at}
 use Rattle.subchars.specs.declared.Mode.{Mode}
-use Rattle.join.specs.Join.{Block, exactBlock, leftOf, rightOf, besides, rowsOf}
+use Rattle.blocks.specs.Block.{Block, exactBlock, leftOf, rightOf, rowsOf}
+use Rattle.overlap.specs.Join.{besides}
 use Rattle.join.specs.JoinCall.{joinTold, joinArea}
-use Rattle.join.proofs.Rows.{row-room, length-rows, rows-at}
+use Rattle.blocks.proofs.Rows.{row-room, length-rows, rows-at}
 
 module _ (y : Mode) (h n : ℕ) (line : List ℕ) (m : ℕ) (character : List ℕ) (room : ℕ) where
   abbrev block : Block

@@ -13,12 +13,13 @@ use Rattle.ground.specs.Refusals.{areaTooSmall, lineTooWide, badShape}
 use Rattle.ground.proofs.Areas.{padded-of}
 use Rattle.subchars.specs.declared.Direction.{Direction}
 use Rattle.subchars.specs.declared.Mode.{Mode}
-use Rattle.join.specs.Join.{Block, exactBlock, leftOf, rightOf, overlap, joinedAt, joinedWidth, besides, rowsOf}
+use Rattle.blocks.specs.Block.{Block, exactBlock, leftOf, rightOf, rowsOf}
+use Rattle.overlap.specs.Join.{overlap, joinedAt, joinedWidth, besides}
 use Rattle.join.specs.Shape.{goodShape}
 use Rattle.join.specs.declared.JoinAnswer.{JoinAnswer}
 use Rattle.join.specs.declared.JoinAnswer.the-variants.{Joined}
 use Rattle.join.specs.JoinCall.{JoinTold, joinTells, refusing, toldOf, joinTold, areaOf, joinArea, JoinGives, BlocksGive, Refuses}
-use Rattle.join.proofs.Rows.{length-rows}
+use Rattle.blocks.proofs.Rows.{length-rows}
 
 -- a refusal leaves zeros
 zeros-area : (number : ℕ) (f : Block) (h room : ℕ) → zeros room ≡ areaOf (refusing number) f h room

@@ -10,7 +10,8 @@ use Rattle.ground.specs.Area.{zeros, padded}
 use Rattle.ground.specs.Limits.{maxLineWidth}
 use Rattle.ground.specs.Refusals.{areaTooSmall, lineTooWide, badShape}
 use Rattle.subchars.specs.declared.Mode.{Mode}
-use Rattle.join.specs.Join.{Block, exactBlock, leftOf, rightOf, overlap, besides, rowsOf}
+use Rattle.blocks.specs.Block.{Block, exactBlock, leftOf, rightOf, rowsOf}
+use Rattle.overlap.specs.Join.{overlap, besides}
 use Rattle.join.specs.Shape.{goodShape}
 use Rattle.join.specs.declared.JoinAnswer.{JoinAnswer}
 use Rattle.join.specs.declared.JoinAnswer.the-variants.{Joined, Refused}

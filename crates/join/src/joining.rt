@@ -8,7 +8,7 @@ use lanes::View;
 use subchars::Direction;
 use subchars::Mode;
 ghost use lib.ListN.{length};
-ghost use Rattle.join.specs.Join.{exactBlock};
+ghost use Rattle.blocks.specs.Block.{exactBlock};
 ghost use Rattle.join.specs.Shape.{Sized};
 ghost use Rattle.join.specs.JoinCall.{Refuses, BlocksGive, JoinGives};
 
@@ -34,8 +34,8 @@ fn join_blocks(
     requires { ⌜ Sized h m (now right) ⌝ }
     ensures { λ r. ⌜ BlocksGive mode h (exactBlock n (now (left .entry))) (exactBlock m (now (right .entry))) (length (now (out .entry))) r (now (out .exit)) ⌝ }
 {
-    let a_starts = crate::row_starts(n, h);
-    let b_starts = crate::row_starts(m, h);
+    let a_starts = blocks::row_starts(n, h);
+    let b_starts = blocks::row_starts(m, h);
     let a = View {
         base: 0,
         along: 1,
@@ -46,7 +46,7 @@ fn join_blocks(
         along: 1,
         len: m,
     };
-    let o = crate::overlap_of(mode, left, &a_starts, a, right, &b_starts, b, h);
+    let o = overlap::overlap_of(mode, left, &a_starts, a, right, &b_starts, b, h);
     let w = n + m - o;
     if limits::MAX_LINE_WIDTH < w {
         return refuse(refusals::LINE_TOO_WIDE, out);

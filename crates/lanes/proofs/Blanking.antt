@@ -4,8 +4,8 @@ use mathlib.Core.Path.{_≡_, refl, sym}
 use mathlib.Core.Bool.{Bool, true, false, cond}
 use Prim.Native.Nat.{ℕ}
 use lib.Dec.{eqb}
-use borrow.Author.Tests.{eq-eqb, ne-eqb, eqb-true}
-use Rattle.subchars.specs.Pair.{blank, blanked}
+use borrow.Author.Tests.{ne-eqb, eqb-true}
+use Rattle.subchars.specs.Hardblank.{blank, blanked}
 use Rattle.lanes.specs.Blocks.{Cells, blankedCells}
 use Rattle.lanes.specs.Overlap.{fitting}
 use Rattle.lanes.proofs.Agreeing.{fitting-cong}

@@ -4,7 +4,7 @@ use mathlib.Core.Path.{_≡_, sym, _∙_, ap, subst}
 use Prim.Native.Nat.{ℕ, _+_, _-_, _≤_, _<_, min}
 use native.Mathlib.Omega.{arith}
 use native.Mathlib.Numerals.{add-one}
-use Rattle.subchars.specs.Pair.{blank}
+use Rattle.subchars.specs.Hardblank.{blank}
 use Rattle.lanes.specs.Blocks.{Cells, blankedCells}
 use Rattle.lanes.specs.Overlap.{hasBlank, free, fitting}
 use Rattle.lanes.specs.Blanks.{Leading, Trailing}

@@ -23,14 +23,14 @@ abbrev pub heldOf : List ℕ → List ℕ → ℕ → Place
 heldOf starts widths c = heldAt (getD starts c 0) (getD widths c 0)
 
 -- The first of two places that is one.
-abbrev pub orElse : Place → Place → Place
-orElse (At p w) x = At p w
-orElse Nowhere x = x
+abbrev pub orElsePlace : Place → Place → Place
+orElsePlace (At p w) x = At p w
+orElsePlace Nowhere x = x
 
 -- The lists after one record more.
-pub record Noted (live : Bool) (code at width : ℕ) (starts widths starts′ widths′ : List ℕ) : Type 0 where
+pub record LetterNoted (live : Bool) (code at width : ℕ) (starts widths starts′ widths′ : List ℕ) : Type 0 where
   pub as-long : (length starts′ ≡ length starts) × (length widths′ ≡ length widths)
-  pub each : (c : ℕ) → c < smallCodes → heldOf starts′ widths′ c ≡ orElse (heldOf starts widths c) (cond (live && eqb code c) (heldAt at width) Nowhere)
+  pub each : (c : ℕ) → c < smallCodes → heldOf starts′ widths′ c ≡ orElsePlace (heldOf starts widths c) (cond (live && eqb code c) (heldAt at width) Nowhere)
 
 -- The lists hold the letters of the small codes of a pack's records.
 pub record Held (f : Head) (rs : List (List ℕ)) (starts widths : List ℕ) : Type 0 where

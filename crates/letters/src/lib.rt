@@ -11,16 +11,14 @@ use subchars::Code;
 ghost use mathlib.Core.Path.{_≡_};
 ghost use mathlib.Core.List.{List};
 ghost use Prim.Native.Nat.{ℕ, _+_, _*_, _<_, _≤_};
-ghost use lib.ListN.{length, drop, getD};
+ghost use lib.ListN.{length, getD};
 ghost use Rattle.ground.specs.Limits.{maxHeight, maxPackLength};
 ghost use Rattle.index.specs.Latest.{smallCodes};
 ghost use Rattle.records.specs.Codes.{bitsOf};
 ghost use Rattle.records.specs.Versions.{headLength};
-ghost use Rattle.records.specs.Records.{listing};
 ghost use Rattle.records.specs.Places.{placeIn};
-ghost use Rattle.records.specs.Steps.{Walkable};
 ghost use Rattle.heads.specs.Pack.{says, meaning};
-ghost use Rattle.letters.specs.Held.{heldAt, Noted, Held, LettersHeld};
+ghost use Rattle.letters.specs.Held.{heldAt, LetterNoted, Held, LettersHeld};
 
 // The place that two entries of the lists hold.
 fn held_at(start: usize, width: usize) -> Place
@@ -42,7 +40,7 @@ fn note(
     width: usize,
 )
     requires { ⌜ (smallCodes ≤ length (now starts)) × (smallCodes ≤ length (now widths)) ⌝ }
-    ensures { λ _. ⌜ Noted live code at width (now (starts .entry)) (now (widths .entry)) (now (starts .exit)) (now (widths .exit)) ⌝ }
+    ensures { λ _. ⌜ LetterNoted live code at width (now (starts .entry)) (now (widths .entry)) (now (starts .exit)) (now (widths .exit)) ⌝ }
 {
     if !live {
         return;

@@ -1,8 +1,8 @@
 -- The answers of the calls, case by case.
 -- Assumes nothing.
-use mathlib.Core.Path.{_≡_, refl, sym, ap, ap₂, _∙_, subst}
+use mathlib.Core.Path.{_≡_, refl, sym, ap, ap₂, _∙_}
 use mathlib.Core.Bool.{Bool, true, false, cond, not, _&&_, _||_}
-use mathlib.Core.List.{List, [], _∷_, _++_, append-assoc}
+use mathlib.Core.List.{List, [], _++_, append-assoc}
 use Prim.Native.Nat.{ℕ, _+_, _-_, _*_, _≤_, _<_}
 use native.Mathlib.Omega.{arith}
 use native.Mathlib.Nat.{mul-le-mul-right}
@@ -11,7 +11,7 @@ use lib.ListN.{length, take, drop, getD, set, length-set, length-append, length-
 use denote.Ref.{RefT, ptr}
 use borrow.Author.Tests.{eq-eqb, ne-eqb, le-leb, lt-leb, leb-true, eqb-true}
 use Rattle.ground.specs.Area.{zeros, padded}
-use Rattle.ground.specs.Runs.{all}
+use Rattle.ground.specs.Runs.{all, joined}
 use Rattle.ground.specs.Refusals.{refusal, badShape, damagedPack, codePresent, codeAbsent, noRoom}
 use Rattle.ground.specs.declared.refusals.Refusal.{Refusal}
 use Rattle.ground.proofs.Tests.{and-left, and-right, clash}
@@ -20,19 +20,16 @@ use Rattle.areas.proofs.LaidLaws.{laid-parts, length-laid}
 use Rattle.records.specs.declared.Head.{Head}
 use Rattle.records.specs.declared.Place.{Place}
 use Rattle.records.specs.declared.Place.the-variants.{At, Nowhere}
-use Rattle.records.specs.declared.Spot.{Spot}
 use Rattle.records.specs.declared.Spot.the-variants.{Free, Tail}
 use Rattle.records.specs.Versions.{headLength, recordHeadLength, maxWidth}
 use Rattle.rows.specs.Rows.{legalByte}
-use Rattle.records.specs.Records.{minusOne, listing, Listing, hasLive, liveCount}
+use Rattle.records.specs.Records.{minusOne, hasLive}
 use Rattle.records.specs.Places.{placeIn, isPlace, spotIn}
-use Rattle.records.specs.Steps.{Walkable}
 use Rattle.records.proofs.VersionLaws.{max-width-high}
 use Rattle.records.proofs.WalkLaws.{recordsAt, place-has}
-use Rattle.edits.specs.Changes.{joined, newRecord, removed, placed, hasFree, kept}
+use Rattle.edits.specs.Changes.{newRecord, removed, placed, kept}
 use Rattle.edits.proofs.WriteLaws.{length-new}
-use Rattle.edits.proofs.ReadBack.{Wholes}
-use Rattle.edits.proofs.PlaceLaws.{place-removed, place-live, place-inside, spot-placed, free-inside, spot-free, AtTail, spot-tail}
+use Rattle.edits.proofs.PlaceLaws.{place-removed, place-live, spot-placed, free-inside, spot-free, AtTail, spot-tail}
 use Rattle.heads.specs.declared.Opened.the-variants.{Says, Damaged}
 use Rattle.heads.specs.Pack.{Pack, says, damaged, meaning, remade, openedBy}
 use Rattle.pack.specs.declared.PackAnswer.the-variants as checked
@@ -40,10 +37,9 @@ use Rattle.pack.specs.declared.Located.{Located}
 use Rattle.pack.specs.declared.Located.the-variants as located
 use Rattle.pack.specs.declared.FindAnswer.the-variants as sought
 use Rattle.pack.specs.declared.EditAnswer.the-variants.{Done, Refused}
-use Rattle.pack.specs.Calls.{checkTold, locatedAt, locatedIn, foundAt, findTold, partOf, rowsTold, LiesIn, Change, changed, refused, after, tells, Changes, removal, goodLetter, hasRoom, insertion, Puttable, compaction}
-use Rattle.heads.proofs.HeadLaws.{Headed}
+use Rattle.pack.specs.Calls.{checkTold, locatedAt, locatedIn, foundAt, findTold, rowsPart, rowsTold, LiesIn, Changes, removal, goodLetter, hasRoom, insertion, compaction}
 use Rattle.heads.proofs.FindLaws.{records-are, place-in}
-use Rattle.heads.proofs.OpenLaws.{Opens, opens-of, Told, told, told-damaged, pack-wholes, pack-bytes, head-size, pack-fits, remade-is}
+use Rattle.heads.proofs.OpenLaws.{Opens, opens-of, told, told-damaged, pack-wholes, pack-bytes, head-size, pack-fits, remade-is}
 
 -- A pack that is damaged.
 module _ (s : List ℕ) (e : Damaged ≡ openedBy (meaning s)) where
@@ -236,11 +232,11 @@ pub rows-of : (s : List ℕ) (code start w size : ℕ) → located.Rows start w 
 unfolding rowsTold
 rows-of s code start w size e =
     let k : start + size - start ≡ size = omega arith in
-    ap (λ (j : ℕ). take j (drop start s)) k ∙ ap (partOf s) e
+    ap (λ (j : ℕ). take j (drop start s)) k ∙ ap (rowsPart s) e
 
 pub rows-none : (s : List ℕ) (code : ℕ) (r : Refusal) → located.Refused r ≡ locatedIn (meaning s) code → [] ≡ rowsTold s code
 unfolding rowsTold
-rows-none s code r e = ap (partOf s) e
+rows-none s code r e = ap (rowsPart s) e
 
 -- The part lies where find tells, and a refusal tells nothing.
 module _ (pack part : RefT (List ℕ)) (x : Located) where

@@ -4,7 +4,7 @@ use mathlib.Core.Path.{_≡_, refl, sym, ap, _∙_}
 use mathlib.Core.Bool.{Bool, true, false, cond, not, _&&_, _||_}
 use mathlib.Core.List.{List}
 use mathlib.Core.Logic.{_↔_, _⊎_, inl, inr}
-use Prim.Native.Nat.{ℕ, zero, suc, _+_, _*_, _≤_, _<_}
+use Prim.Native.Nat.{ℕ, zero, suc, _≤_, _<_}
 use native.Mathlib.Omega.{arith}
 use lib.Dec.{eqb, leb}
 use lib.ListN.{length, take, drop, getD, length-drop}
@@ -12,11 +12,11 @@ use borrow.Author.Tests.{eqb-true, eqb-false, ne-eqb, eq-eqb, leb-true, leb-fals
 use Rattle.ground.specs.Limits.{maxHeight, maxPackLength, minPackLength}
 use Rattle.ground.specs.Runs.{all}
 use Rattle.ground.proofs.Tests.{and-left, and-right, and-none, never-both, not-true-false, clash}
-use Rattle.subchars.specs.Pair.{legalHardblank}
+use Rattle.subchars.specs.Hardblank.{legalHardblank}
 use Rattle.rows.specs.Rows.{legalByte}
 use Rattle.records.specs.declared.Head.{Head}
 use Rattle.records.specs.Versions.{headLength, recordHeadLength, maxWidth}
-use Rattle.records.specs.Records.{isZero, live, free, codeIn, widthIn, rowsIn, sizeIn, minusOne, goodFields, goodRecord, Listing, ends, withRecord, listing, noneTwice}
+use Rattle.records.specs.Records.{isZero, live, freeStatus, codeIn, widthIn, rowsIn, sizeIn, minusOne, goodFields, goodRecord, RecordList, listEnds, withRecord, recordList, noneTwice}
 use Rattle.records.proofs.FieldLaws.{fields-status, not-zeros}
 use Rattle.records.proofs.ListingLaws.{listing-step, Fine, fine}
 use Rattle.heads.specs.Pack.{isMark, isVersion, legalHead, isHead, headIn, says, damaged, meant, meaning}
@@ -29,28 +29,28 @@ or-none false b e = (refl, e)
 -- "One byte 1 for live or 2 for free, .. code -1, a width over 199."
 module _ (version status code width : ℕ) where
   abbrev pub BadFields : Type 0
-  BadFields = ((status ≡ live → ⊥) × (status ≡ free → ⊥)) ⊎ (code ≡ minusOne) ⊎ (maxWidth version < width)
+  BadFields = ((status ≡ live → ⊥) × (status ≡ freeStatus → ⊥)) ⊎ (code ≡ minusOne) ⊎ (maxWidth version < width)
 
   fields-bad : goodFields version status code width ≡ false → BadFields
   unfolding goodFields
-  fields-bad e = by-code (and-none (not (eqb code minusOne)) (leb width (maxWidth version) && (eqb status live || eqb status free)) e)
+  fields-bad e = by-code (and-none (not (eqb code minusOne)) (leb width (maxWidth version) && (eqb status live || eqb status freeStatus)) e)
     where
-      by-width : (leb width (maxWidth version) ≡ false) ⊎ ((eqb status live || eqb status free) ≡ false) → BadFields
+      by-width : (leb width (maxWidth version) ≡ false) ⊎ ((eqb status live || eqb status freeStatus) ≡ false) → BadFields
       by-width (inl w) = inr (inr (leb-false width (maxWidth version) w))
-      by-width (inr s) = let n = or-none (eqb status live) (eqb status free) s in inl (eqb-false status live (n .0), eqb-false status free (n .1))
+      by-width (inr s) = let n = or-none (eqb status live) (eqb status freeStatus) s in inl (eqb-false status live (n .0), eqb-false status freeStatus (n .1))
 
-      by-code : (not (eqb code minusOne) ≡ false) ⊎ ((leb width (maxWidth version) && (eqb status live || eqb status free)) ≡ false) → BadFields
+      by-code : (not (eqb code minusOne) ≡ false) ⊎ ((leb width (maxWidth version) && (eqb status live || eqb status freeStatus)) ≡ false) → BadFields
       by-code (inl c) = inr (inl (eqb-true code minusOne (not-false (eqb code minusOne) c)))
-      by-code (inr r) = by-width (and-none (leb width (maxWidth version)) (eqb status live || eqb status free) r)
+      by-code (inr r) = by-width (and-none (leb width (maxWidth version)) (eqb status live || eqb status freeStatus) r)
 
   bad-fields : BadFields → goodFields version status code width ≡ true → ⊥
   unfolding goodFields
   bad-fields (inl s) e =
-      let r = and-right (not (eqb code minusOne)) (leb width (maxWidth version) && (eqb status live || eqb status free)) e in
-      never-both _ (and-right (leb width (maxWidth version)) (eqb status live || eqb status free) r) (rw (ne-eqb status live (s .0), ne-eqb status free (s .1)))
+      let r = and-right (not (eqb code minusOne)) (leb width (maxWidth version) && (eqb status live || eqb status freeStatus)) e in
+      never-both _ (and-right (leb width (maxWidth version)) (eqb status live || eqb status freeStatus) r) (rw (ne-eqb status live (s .0), ne-eqb status freeStatus (s .1)))
   bad-fields (inr (inl c)) e = never-both _ (and-left (not (eqb code minusOne)) _ e) (rw (eq-eqb code minusOne c))
   bad-fields (inr (inr w)) e =
-      let r = and-right (not (eqb code minusOne)) (leb width (maxWidth version) && (eqb status live || eqb status free)) e in
+      let r = and-right (not (eqb code minusOne)) (leb width (maxWidth version) && (eqb status live || eqb status freeStatus)) e in
       omega (arith, leb-true width (maxWidth version) (and-left (leb width (maxWidth version)) _ r))
 
 module _ (f : Head) where
@@ -117,25 +117,25 @@ module _ (f : Head) where
   unfolding sizeIn
   size-some t = omega arith
 
-  breaks-whole : (t u : List ℕ) → Behind t u → all isZero u ≡ false → BadRecord u → listing f t .whole ≡ false
+  breaks-whole : (t u : List ℕ) → Behind t u → all isZero u ≡ false → BadRecord u → recordList f t .whole ≡ false
   breaks-whole _ _ (start t) z x =
-      let e : listing f t ≡ ends false = listing-step f t ∙ rw (z, bad-record t x) in
-      ap (λ (l : Listing). l .whole) e
+      let e : recordList f t ≡ listEnds false = listing-step f t ∙ rw (z, bad-record t x) in
+      ap (λ (l : RecordList). l .whole) e
   breaks-whole _ _ (next t u g b) z x =
-      let e : listing f t ≡ withRecord (take (sizeIn f t) t) (listing f (drop (sizeIn f t) t)) = listing-step f t ∙ rw (good-some t g, g) in
-      ap (λ (l : Listing). l .whole) e ∙ breaks-whole (drop (sizeIn f t) t) u b z x
+      let e : recordList f t ≡ withRecord (take (sizeIn f t) t) (recordList f (drop (sizeIn f t) t)) = listing-step f t ∙ rw (good-some t g, g) in
+      ap (λ (l : RecordList). l .whole) e ∙ breaks-whole (drop (sizeIn f t) t) u b z x
 
-  breaks-next : (t : List ℕ) → (length (drop (sizeIn f t) t) < length t → listing f (drop (sizeIn f t) t) .whole ≡ false → Breaks (drop (sizeIn f t) t)) → listing f t .whole ≡ false → Breaks t
-  breaks-next t rest e = go (all isZero t) refl (goodRecord f t) refl (sym (ap (λ (x : Listing). x .whole) (listing-step f t)) ∙ e)
+  breaks-next : (t : List ℕ) → (length (drop (sizeIn f t) t) < length t → recordList f (drop (sizeIn f t) t) .whole ≡ false → Breaks (drop (sizeIn f t) t)) → recordList f t .whole ≡ false → Breaks t
+  breaks-next t rest e = go (all isZero t) refl (goodRecord f t) refl (sym (ap (λ (x : RecordList). x .whole) (listing-step f t)) ∙ e)
     where
-      go : (z : Bool) → all isZero t ≡ z → (g : Bool) → goodRecord f t ≡ g → cond z (ends true) (cond g (withRecord (take (sizeIn f t) t) (listing f (drop (sizeIn f t) t))) (ends false)) .whole ≡ false → Breaks t
+      go : (z : Bool) → all isZero t ≡ z → (g : Bool) → goodRecord f t ≡ g → cond z (listEnds true) (cond g (withRecord (take (sizeIn f t) t) (recordList f (drop (sizeIn f t) t))) (listEnds false)) .whole ≡ false → Breaks t
       go true p g q e = clash (cc)
       go false p false q e = (t, start t, p, record-bad t q)
       go false p true q e =
           let x = rest (omega (arith, length-drop (sizeIn f t) t, fine f t q .head, size-some t)) e in
           (x .0, next t (x .0) q (x .1), x .2, x .3)
 
-  whole-breaks : (n : ℕ) (t : List ℕ) → length t ≤ n → listing f t .whole ≡ false → Breaks t
+  whole-breaks : (n : ℕ) (t : List ℕ) → length t ≤ n → recordList f t .whole ≡ false → Breaks t
   whole-breaks zero t l e = breaks-next t (λ k w. absurd (omega arith)) e
   whole-breaks (suc n) t l e = breaks-next t (λ k w. whole-breaks n (drop (sizeIn f t) t) (omega arith) w) e
 
@@ -159,7 +159,7 @@ module _ (s : List ℕ) where
       BadHead ⊎
       (length s < headLength (headIn s .version)) ⊎
       Breaks (headIn s) recordBytes ⊎
-      (noneTwice (listing (headIn s) recordBytes .records) ≡ false)
+      (noneTwice (recordList (headIn s) recordBytes .records) ≡ false)
 
   -- The tests of a head,
   abbrev version : Bool
@@ -273,8 +273,8 @@ module _ (s : List ℕ) where
   told (inr (inr (inr (inl h)))) = inr (inr (inr (inl h)))
   told (inr (inr (inr (inr l)))) = inr (inr (inr (inr (inl l))))
 
-  abbrev x : Listing
-  x = listing (headIn s) recordBytes
+  abbrev x : RecordList
+  x = recordList (headIn s) recordBytes
 
   pub damaged-by : meaning s ≡ damaged → Damage
   unfolding meaning

@@ -1,7 +1,7 @@
 -- The theorems of Q-6 in the words of the contracts: what a call that answers Done has done.
 -- Assumes nothing.
 use mathlib.Core.Path.{_≡_, refl, sym, ap, _∙_}
-use mathlib.Core.Bool.{Bool, true, false, cond, not, _&&_}
+use mathlib.Core.Bool.{Bool, true, false, cond}
 use mathlib.Core.List.{List}
 use Prim.Native.Nat.{ℕ, _+_, _≤_, _<_}
 use native.Mathlib.Omega.{arith}
@@ -24,13 +24,13 @@ use Rattle.records.proofs.WalkLaws.{place-has}
 use Rattle.edits.specs.Changes.{newRecord, removed, placed, kept}
 use Rattle.records.specs.Letters.{letter, noLetter}
 use Rattle.edits.proofs.WriteLaws.{length-new}
-use Rattle.heads.specs.Pack.{Pack, says, damaged, meaning, remade}
+use Rattle.heads.specs.Pack.{Pack, says, meaning, remade}
 use Rattle.pack.specs.declared.PackAnswer.the-variants as checked
 use Rattle.ground.specs.declared.refusals.Refusal.{Refusal}
 use Rattle.pack.specs.declared.EditAnswer.the-variants as edited
 use Rattle.pack.specs.declared.EditAnswer.the-variants.{Done}
-use Rattle.pack.specs.Calls.{checkTold, letterFound, Change, changed, refused, tells, after, Changes, removal, goodLetter, hasRoom, insertion, compaction}
-use Rattle.pack.proofs.CallLaws.{removed-bytes, removed-was, free-room, put-free, tail-inside, put-tail, tail-room}
+use Rattle.pack.specs.Calls.{checkTold, letterFound, Change, changed, refused, tells, bytesAfter, Changes, removal, goodLetter, hasRoom, insertion, compaction}
+use Rattle.pack.proofs.CallLaws.{removed-bytes, removed-was, free-room, put-free, put-tail, tail-room}
 use Rattle.pack.proofs.Theorems.{remove-accepted, put-accepted, compact-accepted, compact-long, removed-gone, removed-others, put-found, put-found-others, compact-all}
 
 -- "Check" accepts what says a head and records.
@@ -47,11 +47,11 @@ module _ (s new : List ℕ) (f : Head) (rs : List (List ℕ)) (m : meaning s ≡
 
   pub removes : (code : ℕ) → Changes (removal (meaning s) code) s Done new → Removes code
   unfolding removal
-  removes code x = go (eqb code minusOne) refl (hasLive code rs) refl (x .answer ∙ ap (λ (p : Pack). tells (removal p code)) m) (x .bytes ∙ ap (λ (p : Pack). after s (removal p code)) m)
+  removes code x = go (eqb code minusOne) refl (hasLive code rs) refl (x .answer ∙ ap (λ (p : Pack). tells (removal p code)) m) (x .bytes ∙ ap (λ (p : Pack). bytesAfter s (removal p code)) m)
     where
       go : (a : Bool) → eqb code minusOne ≡ a → (b : Bool) → hasLive code rs ≡ b →
           Done ≡ tells (cond a (refused badShape) (cond b (changed (removed code rs)) (refused codeAbsent))) →
-          new ≡ after s (cond a (refused badShape) (cond b (changed (removed code rs)) (refused codeAbsent))) → Removes code
+          new ≡ bytesAfter s (cond a (refused badShape) (cond b (changed (removed code rs)) (refused codeAbsent))) → Removes code
       go true p b q e z = clash (cc)
       go false p false q e z = clash (cc)
       go false p true q e z = record { legal = eqb-false code minusOne p; present = q; bytes = z }
@@ -65,11 +65,11 @@ module _ (s new : List ℕ) (f : Head) (rs : List (List ℕ)) (m : meaning s ≡
 
   pub puts : (code width : ℕ) (rows : List ℕ) → Changes (insertion (meaning s) (length s) code width rows) s Done new → Puts code width rows
   unfolding insertion
-  puts code width rows x = go (goodLetter f code width rows) refl (hasLive code rs) refl (hasRoom f (length s) width rs) refl (x .answer ∙ ap (λ (p : Pack). tells (insertion p (length s) code width rows)) m) (x .bytes ∙ ap (λ (p : Pack). after s (insertion p (length s) code width rows)) m)
+  puts code width rows x = go (goodLetter f code width rows) refl (hasLive code rs) refl (hasRoom f (length s) width rs) refl (x .answer ∙ ap (λ (p : Pack). tells (insertion p (length s) code width rows)) m) (x .bytes ∙ ap (λ (p : Pack). bytesAfter s (insertion p (length s) code width rows)) m)
     where
       go : (a : Bool) → goodLetter f code width rows ≡ a → (b : Bool) → hasLive code rs ≡ b → (d : Bool) → hasRoom f (length s) width rs ≡ d →
           Done ≡ tells (cond a (cond b (refused codePresent) (cond d (changed (placed f width (newRecord (f .version) code width rows) rs)) (refused noRoom))) (refused badShape)) →
-          new ≡ after s (cond a (cond b (refused codePresent) (cond d (changed (placed f width (newRecord (f .version) code width rows) rs)) (refused noRoom))) (refused badShape)) →
+          new ≡ bytesAfter s (cond a (cond b (refused codePresent) (cond d (changed (placed f width (newRecord (f .version) code width rows) rs)) (refused noRoom))) (refused badShape)) →
           Puts code width rows
       go false p b q d r e z = clash (cc)
       go true p true q d r e z = clash (cc)
@@ -79,7 +79,7 @@ module _ (s new : List ℕ) (f : Head) (rs : List (List ℕ)) (m : meaning s ≡
   -- Compact has done: these are the bytes.
   pub compacts : Changes (compaction (meaning s)) s Done new → new ≡ remade s (kept rs)
   unfolding compaction
-  compacts x = x .bytes ∙ ap (λ (p : Pack). after s (compaction p)) m
+  compacts x = x .bytes ∙ ap (λ (p : Pack). bytesAfter s (compaction p)) m
 
   -- "Each change leaves a pack that check accepts."
   pub remove-outcome : (code : ℕ) → Changes (removal (meaning s) code) s Done new → meaning new ≡ says f (removed code rs)

@@ -11,7 +11,7 @@ use lib.ListN.{length}
 use borrow.Author.Tests.{eqb-true, eqb-false, eq-eqb, ne-eqb, leb-true, leb-false, le-leb, lt-leb, not-false}
 use Rattle.ground.specs.Refusals.{refusal, badShape, damagedPack, codePresent, codeAbsent, noRoom}
 use Rattle.ground.specs.declared.refusals.Refusal.{Refusal}
-use Rattle.ground.specs.Runs.{all}
+use Rattle.ground.specs.Runs.{all, joined}
 use Rattle.ground.proofs.Tests.{and-left, and-right, and-none, or-right, never-both, not-true-false, clash}
 use Rattle.rows.specs.Rows.{legalByte}
 use Rattle.records.specs.declared.Head.{Head}
@@ -21,7 +21,7 @@ use Rattle.records.specs.Versions.{headLength, recordHeadLength, maxWidth}
 use Rattle.records.specs.Records.{minusOne, hasLive, liveCount}
 use Rattle.records.specs.Places.{placeIn, isPlace}
 use Rattle.records.proofs.WalkLaws.{place-has}
-use Rattle.edits.specs.Changes.{joined, hasFree, removed, placed, newRecord, kept}
+use Rattle.edits.specs.Changes.{hasFree, removed, placed, newRecord}
 use Rattle.heads.specs.Pack.{Pack, says, damaged, meaning}
 use Rattle.pack.specs.declared.PackAnswer.{PackAnswer}
 use Rattle.pack.specs.declared.PackAnswer.the-variants as checked
@@ -30,7 +30,7 @@ use Rattle.pack.specs.declared.FindAnswer.{FindAnswer}
 use Rattle.pack.specs.declared.FindAnswer.the-variants as sought
 use Rattle.pack.specs.declared.EditAnswer.{EditAnswer}
 use Rattle.pack.specs.declared.EditAnswer.the-variants.{Done, Refused}
-use Rattle.pack.specs.Calls.{checkTold, locatedAt, locatedIn, foundAt, findTold, Change, changed, refused, tells, removal, goodLetter, hasRoom, insertion, compaction}
+use Rattle.pack.specs.Calls.{checkTold, locatedAt, locatedIn, foundAt, findTold, changed, refused, tells, removal, goodLetter, hasRoom, insertion, compaction}
 
 -- Check: "20"; otherwise the height and how many records are live.
 module _ (s : List ℕ) where

@@ -2,7 +2,7 @@
 -- Assumes nothing.
 use mathlib.Core.Path.{_≡_, refl, sym, ap, ap₂, _∙_, subst}
 use mathlib.Core.Bool.{Bool, true, false, cond, not, _&&_, _||_}
-use mathlib.Core.List.{List, [], _∷_, _++_, append-assoc}
+use mathlib.Core.List.{List, _++_, append-assoc}
 use Prim.Native.Nat.{ℕ, _+_, _-_, _*_, _≤_, _<_}
 use native.Mathlib.Omega.{arith}
 use lib.Dec.{eqb, leb}
@@ -10,31 +10,31 @@ use lib.ListN.{length, take, drop, length-append, length-replicate}
 use lib.Seq.{take-append-le, take-take, drop-at}
 use borrow.Author.Tests.{ne-eqb, eqb-true, eqb-false, eq-eqb, leb-true}
 use Rattle.ground.specs.Area.{zeros, padded}
-use Rattle.ground.specs.Runs.{all}
-use Rattle.ground.proofs.Tests.{and-left, and-right, and-both, not-true-false}
+use Rattle.ground.specs.Runs.{all, joined}
+use Rattle.ground.proofs.Tests.{and-left, and-right}
 use Rattle.records.specs.declared.Head.{Head}
 use Rattle.records.specs.declared.Place.{Place}
 use Rattle.records.specs.declared.Place.the-variants.{At, Nowhere}
 use Rattle.records.specs.Versions.{headLength, recordHeadLength, maxWidth}
 use Rattle.records.proofs.VersionLaws.{head-length-low}
 use Rattle.rows.specs.Rows.{legalByte}
-use Rattle.records.specs.Records.{minusOne, isLive, codeIn, widthIn, rowsIn, isLiveOf, hasLive, noneTwice, Listing, listing}
+use Rattle.records.specs.Records.{minusOne, isLiveOf, hasLive, noneTwice, recordList}
 use Rattle.records.specs.Places.{placeIn}
-use Rattle.edits.specs.Changes.{joined, newRecord, removed, placed, hasFree, kept}
+use Rattle.edits.specs.Changes.{newRecord, removed, placed, hasFree, kept}
 use Rattle.records.specs.Letters.{Letter, letter, noLetter, letterIn}
 use Rattle.edits.proofs.WriteLaws.{length-new}
-use Rattle.edits.proofs.ReadBack.{Wholes, reads-back, listed}
+use Rattle.edits.proofs.ReadBack.{Wholes, reads-back}
 use Rattle.edits.proofs.RecordLaws.{new-live, new-code, new-width, new-rows, whole-new}
-use Rattle.edits.proofs.ChangeLaws.{wholes-removed, wholes-placed, wholes-kept, once-removed, once-placed, once-kept, has-not, of-live, letter-none, letter-removed, letter-kept, letter-placed, letter-new}
+use Rattle.edits.proofs.ChangeLaws.{wholes-removed, wholes-placed, wholes-kept, once-removed, once-placed, once-kept, has-not, letter-none, letter-removed, letter-kept, letter-placed, letter-new}
 use Rattle.edits.proofs.PlaceLaws.{readAt, removed-long, kept-long, placed-long, kept-none-free}
 use Rattle.ground.specs.Refusals.{refusal, badShape}
 use Rattle.pack.specs.declared.Located.{Located}
 use Rattle.pack.specs.declared.Located.the-variants as located
-use Rattle.heads.specs.Pack.{isHead, headOf, headIn, Pack, says, damaged, meaning, remade}
-use Rattle.pack.specs.Calls.{locatedAt, locatedIn, foundAt, findTold, partOf, rowsTold, letterOf, letterFound, goodLetter, hasRoom}
+use Rattle.heads.specs.Pack.{isHead, headOf, Pack, says, meaning, remade}
+use Rattle.pack.specs.Calls.{locatedAt, locatedIn, foundAt, findTold, rowsPart, rowsTold, letterOf, letterFound, goodLetter, hasRoom}
 use Rattle.heads.proofs.FindLaws.{letter-there}
 use Rattle.heads.proofs.HeadLaws.{Headed, headed-of}
-use Rattle.heads.proofs.OpenLaws.{Opens, opens-of, said, pack-wholes, pack-bytes, head-size, pack-fits}
+use Rattle.heads.proofs.OpenLaws.{Opens, opens-of, said, pack-wholes, head-size, pack-fits}
 
 -- Whole records, no code twice, that fit: with the same head they are a pack that says them.
 module _ (s : List ℕ) (f : Head) (rs : List (List ℕ)) (m : meaning s ≡ says f rs) where
@@ -76,7 +76,7 @@ module _ (s : List ℕ) (f : Head) (rs : List (List ℕ)) (m : meaning s ≡ say
         said (remade s qs) f qs (record {
           headed = headed;
           read =
-              ap (listing f) (ap (drop (headLength (f .version))) remade-bytes ∙ drop-at (take (headLength (f .version)) s) (joined qs ++ zeros k) (headLength (f .version)) (head-size s f rs o)) ∙
+              ap (recordList f) (ap (drop (headLength (f .version))) remade-bytes ∙ drop-at (take (headLength (f .version)) s) (joined qs ++ zeros k) (headLength (f .version)) (head-size s f rs o)) ∙
               reads-back f qs k w;
           once = n;
         })
@@ -156,9 +156,9 @@ find-letter s f rs m code n =
     same (placeIn f code h rs) ∙ letter-there s f rs m code
   where
     told : Located → Letter
-    told x = letterOf (partOf s x) (foundAt x)
+    told x = letterOf (rowsPart s x) (foundAt x)
 
-    same : (x : Place) → letterOf (partOf s (locatedAt f x)) (foundAt (locatedAt f x)) ≡ readAt f s x
+    same : (x : Place) → letterOf (rowsPart s (locatedAt f x)) (foundAt (locatedAt f x)) ≡ readAt f s x
     same (At p w) = refl
     same Nowhere = refl
 
@@ -166,8 +166,8 @@ find-letter s f rs m code n =
 find-none : (s : List ℕ) (f : Head) (rs : List (List ℕ)) → meaning s ≡ says f rs → (code : ℕ) → code ≡ minusOne → letterFound s code ≡ noLetter
 unfolding letterFound findTold rowsTold locatedIn
 find-none s f rs m code e =
-    ap (λ (p : Pack). letterOf (partOf s (locatedIn p code)) (foundAt (locatedIn p code))) m ∙
-    ap (λ (b : Bool). letterOf (partOf s (cond b (located.Refused (refusal badShape 0)) (locatedAt f (placeIn f code (headLength (f .version)) rs)))) (foundAt (cond b (located.Refused (refusal badShape 0)) (locatedAt f (placeIn f code (headLength (f .version)) rs))))) (eq-eqb code minusOne e)
+    ap (λ (p : Pack). letterOf (rowsPart s (locatedIn p code)) (foundAt (locatedIn p code))) m ∙
+    ap (λ (b : Bool). letterOf (rowsPart s (cond b (located.Refused (refusal badShape 0)) (locatedAt f (placeIn f code (headLength (f .version)) rs)))) (foundAt (cond b (located.Refused (refusal badShape 0)) (locatedAt f (placeIn f code (headLength (f .version)) rs))))) (eq-eqb code minusOne e)
 
 -- Two packs with one head tell the same letter of a code where their records have the same.
 same-found : (s t : List ℕ) (f : Head) (rs qs : List (List ℕ)) → meaning s ≡ says f rs → meaning t ≡ says f qs → (d : ℕ) → letterIn f d qs ≡ letterIn f d rs → letterFound t d ≡ letterFound s d

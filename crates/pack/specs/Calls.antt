@@ -8,7 +8,7 @@ use lib.Dec.{eqb, leb}
 use lib.ListN.{length, take, drop}
 use denote.Ref.{RefT, ptr}
 use Rattle.ground.specs.Refusals.{refusal, badShape, damagedPack, codePresent, codeAbsent, noRoom}
-use Rattle.ground.specs.Runs.{all}
+use Rattle.ground.specs.Runs.{all, joined}
 use Rattle.records.specs.declared.Head.{Head}
 use Rattle.records.specs.declared.Place.{Place}
 use Rattle.records.specs.declared.Place.the-variants.{At, Nowhere}
@@ -16,7 +16,7 @@ use Rattle.records.specs.Versions.{headLength, recordHeadLength, maxWidth}
 use Rattle.rows.specs.Rows.{legalByte}
 use Rattle.records.specs.Records.{minusOne, hasLive, liveCount}
 use Rattle.records.specs.Places.{placeIn}
-use Rattle.edits.specs.Changes.{joined, newRecord, removed, placed, hasFree, kept}
+use Rattle.edits.specs.Changes.{newRecord, removed, placed, hasFree, kept}
 use Rattle.records.specs.Letters.{Letter, letter, noLetter}
 use Rattle.heads.specs.Pack.{Pack, says, damaged, meaning, remade}
 use Rattle.pack.specs.declared.PackAnswer.{PackAnswer}
@@ -49,12 +49,12 @@ foundAt (located.Refused r) = sought.Refused r
 unfoldable pub findTold : Pack → ℕ → FindAnswer
 findTold p code = foundAt (locatedIn p code)
 
-abbrev pub partOf : List ℕ → Located → List ℕ
-partOf s (located.Rows place width size) = take size (drop place s)
-partOf s (located.Refused r) = []
+abbrev pub rowsPart : List ℕ → Located → List ℕ
+rowsPart s (located.Rows place width size) = take size (drop place s)
+rowsPart s (located.Refused r) = []
 
 unfoldable pub rowsTold : List ℕ → ℕ → List ℕ
-rowsTold s code = partOf s (locatedIn (meaning s) code)
+rowsTold s code = rowsPart s (locatedIn (meaning s) code)
 
 -- The part itself, and not a place with equal bytes: it lies in the same memory as the pack, as far behind its start as find tells.
 pub record LiesIn (pack : RefT (List ℕ)) (x : Located) (part : RefT (List ℕ)) : Type 0 where
@@ -78,13 +78,13 @@ tells (changed rs) = edited.Done
 tells (refused n) = edited.Refused (refusal n 0)
 
 -- "A refusal leaves a pack's bytes as they were lent."
-abbrev pub after : List ℕ → Change → List ℕ
-after s (changed rs) = remade s rs
-after s (refused n) = s
+abbrev pub bytesAfter : List ℕ → Change → List ℕ
+bytesAfter s (changed rs) = remade s rs
+bytesAfter s (refused n) = s
 
 pub record Changes (x : Change) (old : List ℕ) (r : EditAnswer) (new : List ℕ) : Type 0 where
   pub answer : r ≡ tells x
-  pub bytes : new ≡ after old x
+  pub bytes : new ≡ bytesAfter old x
 
 -- "Remove changes only the 1 to 2." "20 damaged pack, 17 for .. code -1, .. 22 code absent, .. in that order."
 unfoldable pub removal : Pack → ℕ → Change

@@ -1,13 +1,12 @@
 -- "With a font's own" layout and direction drawing from a pack "equals drawing from that font".
 -- Assumes nothing.
-use mathlib.Core.Path.{_≡_, refl, sym, ap, ap₂, _∙_, subst}
+use mathlib.Core.Path.{_≡_, refl, sym, ap, ap₂, _∙_}
 use mathlib.Core.Bool.{Bool, true, false, cond, true≢false}
 use mathlib.Core.List.{List, [], _∷_}
 use Prim.Native.Nat.{ℕ, zero, suc, _+_, _%_, _<_, _≤_}
 use native.Mathlib.Omega.{arith}
 use lib.Dec.{eqb, leb, ltb}
 use lib.IntN.{ℤ, pos, negsuc}
-use lib.ListN.{length}
 use borrow.Author.Tests.{le-leb}
 use Rattle.ground.specs.Limits.{minScratch, maxRules}
 use Rattle.ground.specs.Refusals.{refusal, areaTooSmall}
@@ -17,13 +16,13 @@ use Rattle.subchars.specs.declared.Mode.{Mode}
 use Rattle.subchars.specs.declared.Smushing.the-variants.{Universal, Controlled}
 use Rattle.subchars.specs.declared.Layout.the-variants.{FullWidth, Fitting, Smushing}
 use Rattle.subchars.specs.Layouts.{oldLayout, smushingBy, has, fullLayout}
-use Rattle.join.specs.Join.{Block, exactBlock}
+use Rattle.blocks.specs.Block.{Block}
 use Rattle.join.specs.Shape.{goodKind, goodLayout}
-use Rattle.join.specs.Writing.{Like}
-use Rattle.join.proofs.Likeness.{like-same}
-use Rattle.figure.specs.Line.{empty, lineFrom, outputOf, outputBytes}
+use Rattle.blocks.specs.Writing.{Like}
+use Rattle.blocks.proofs.Likeness.{like-same}
+use Rattle.figure.specs.Line.{empty, lineFrom}
 use Rattle.figure.proofs.Folding.{attached-like}
-use Rattle.figure.proofs.Showing.{output-like, bytes-like}
+use Rattle.showing.proofs.Showing.{output-like, bytes-like}
 use Rattle.header.specs.declared.Given.{Given}
 use Rattle.header.specs.declared.Given.the-variants.{Absent, Of}
 use Rattle.header.specs.declared.Header.{Header}
@@ -39,11 +38,9 @@ use Rattle.flc.specs.Control as flc
 use Rattle.records.specs.declared.Head.{Head}
 use Rattle.records.specs.Letters.{Letter, letter, noLetter}
 use Rattle.heads.specs.Pack.{says, meaning}
-use Rattle.source.specs.declared.Counts.{Counts}
 use Rattle.source.specs.Source.{Choice, found, stoodIn, nothing, Source, choiceOf, fontSource, packLetter, ofLetters, packSource}
 use Rattle.source.specs.Counting.{isStoodIn, isNothing, one, howMany, countsOf}
-use Rattle.drawing.specs.declared.DrawAnswer.{DrawAnswer}
-use Rattle.drawing.specs.Drawing.{charactersOf, withChoice, lineOf, directionOf, modeOf, TextReading, draws, refuses, readText, Lined, lined, unlined, linedRead, linedFrom, linedOf, drawLined, withCounts, linedAnswer, bytesOf}
+use Rattle.drawing.specs.Drawing.{charactersOf, withChoice, lineOf, directionOf, modeOf, TextReading, draws, refuses, readText, Lined, unlined, linedRead, linedFrom, linedOf, drawLined, withCounts, linedAnswer, bytesOf}
 use Rattle.drawing.proofs.OutputLaws.{font-lined}
 use Rattle.packdrawing.specs.PackDrawing.{packMode, packOf, packLined, SameLetter, MadeOf}
 use Rattle.packdrawing.proofs.PackCases.{of-good-layout}

@@ -1,10 +1,9 @@
 -- What drawing from a pack comes to, case by case.
 -- Assumes nothing.
-use mathlib.Core.Path.{_≡_, refl, sym, ap, _∙_}
+use mathlib.Core.Path.{_≡_, refl, ap, _∙_}
 use mathlib.Core.Bool.{Bool, true, false, cond}
 use mathlib.Core.List.{List}
 use Prim.Native.Nat.{ℕ, _≤_, _<_}
-use lib.Dec.{ltb}
 use borrow.Author.Tests.{lt-ltb, le-ltb}
 use Rattle.ground.specs.Limits.{minScratch}
 use Rattle.ground.specs.Refusals.{refusal, areaTooSmall, badShape, damagedPack}
@@ -17,7 +16,7 @@ use Rattle.letters.specs.Held.{Held}
 use Rattle.flc.specs.Control as flc
 use Rattle.source.specs.Source.{packSource}
 use Rattle.source.specs.Held.{PackGives}
-use Rattle.drawing.specs.Drawing.{Lined, unlined, linedFrom}
+use Rattle.drawing.specs.Drawing.{unlined, linedFrom}
 use Rattle.packdrawing.specs.PackDrawing.{packMode, packBy, packOf, packLined}
 
 module _ (s : List ℕ) (layout : Layout) (direction : Direction) (control text : List ℕ) where

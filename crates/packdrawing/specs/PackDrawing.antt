@@ -11,9 +11,9 @@ use Rattle.subchars.specs.declared.Code.{Code}
 use Rattle.subchars.specs.declared.Direction.{Direction}
 use Rattle.subchars.specs.declared.Layout.{Layout}
 use Rattle.subchars.specs.declared.Mode.{Mode}
-use Rattle.join.specs.Join.{exactBlock}
+use Rattle.blocks.specs.Block.{exactBlock}
 use Rattle.join.specs.Shape.{goodLayout}
-use Rattle.join.specs.Writing.{Like}
+use Rattle.blocks.specs.Writing.{Like}
 use Rattle.header.specs.declared.Header.{Header}
 use Rattle.chars.specs.declared.Entry.{Entry}
 use Rattle.reader.specs.declared.Use.{Use}

@@ -18,7 +18,6 @@ use Rattle.index.specs.declared.Found.the-variants.{At, Nowhere}
 use Rattle.index.specs.Index.{codeOf, startOf, widthOf}
 use Rattle.index.specs.LookUp.{lastAt, orStandIn, lookUp}
 use Rattle.index.proofs.FindLaws.{at-last, nowhere-none, NoneHas}
-use Rattle.reader.specs.declared.LookedUp.{LookedUp}
 use Rattle.reader.specs.declared.LookedUp.the-variants as three
 use Rattle.reader.specs.declared.Use.{Use}
 use Rattle.reader.specs.declared.Use.the-variants.{Used, Nothing}

@@ -1,30 +1,28 @@
 -- A listing is its first record and then what is listed behind it.
 -- Assumes nothing.
 use mathlib.Core.Path.{_≡_, refl, sym, ap, _∙_, subst}
-use mathlib.Core.Bool.{Bool, true, false, cond, not, _&&_, _||_}
+use mathlib.Core.Bool.{Bool, true, false, cond, _&&_}
 use mathlib.Core.List.{List, [], _∷_, _++_}
 use Prim.Native.Nat.{ℕ, zero, suc, _+_, _-_, _*_, _≤_, _<_}
 use native.Mathlib.Omega.{arith}
 use lib.Dec.{eqb, leb}
-use lib.ListN.{length, take, drop, getD, take-append-drop, length-drop}
-use lib.Seq.{take-append-le, drop-append-le, drop-drop, length-take-le}
-use lib.ListN.{List·getD-append}
+use lib.ListN.{length, take, drop, getD, take-append-drop, length-drop, List·getD-append}
+use lib.Seq.{take-append-le, drop-append-le, length-take-le}
 use borrow.Author.Tests.{leb-true, le-leb}
 use Rattle.ground.specs.Runs.{all}
 use Rattle.ground.proofs.Tests.{and-left, and-right, and-both, clash}
 use Rattle.areas.specs.Numbers.{numberOf}
 use Rattle.records.specs.declared.Head.{Head}
-use Rattle.records.specs.declared.Scan.{Scan}
 use Rattle.records.specs.declared.Scan.the-variants.{Record, End, Damaged}
 use Rattle.records.specs.declared.Skim.the-variants as skimmed
-use Rattle.records.specs.Versions.{widthLength, recordHeadLength, maxWidth}
+use Rattle.records.specs.Versions.{widthLength, recordHeadLength}
 use Rattle.rows.specs.Rows.{legalByte}
-use Rattle.records.specs.Records.{isZero, isLive, codeIn, widthIn, rowsIn, sizeIn, goodFields, goodRecord, Listing, ends, withRecord, recordsFrom, listing}
+use Rattle.records.specs.Records.{isZero, isLive, codeIn, widthIn, rowsIn, sizeIn, goodFields, goodRecord, RecordList, listEnds, withRecord, recordsFrom, recordList}
 use Rattle.records.specs.Steps.{scanOf, skimOf}
 use Rattle.records.proofs.VersionLaws.{width-length-low}
 
 module _ (f : Head) where
-  skip : (k : ℕ) (t : List ℕ) → recordsFrom f k t ≡ listing f (drop k t)
+  skip : (k : ℕ) (t : List ℕ) → recordsFrom f k t ≡ recordList f (drop k t)
   unfolding recordsFrom
   skip zero t = refl
   skip (suc k) [] = refl
@@ -35,15 +33,15 @@ module _ (f : Head) where
   size-some t = omega (arith, width-length-low (f .version))
 
   pub listing-step : (t : List ℕ) →
-      listing f t ≡ cond (all isZero t) (ends true) (cond (goodRecord f t) (withRecord (take (sizeIn f t) t) (listing f (drop (sizeIn f t) t))) (ends false))
+      recordList f t ≡ cond (all isZero t) (listEnds true) (cond (goodRecord f t) (withRecord (take (sizeIn f t) t) (recordList f (drop (sizeIn f t) t))) (listEnds false))
   unfolding recordsFrom all
   listing-step [] = refl
   listing-step (b ∷ bs) =
       let n = sizeIn f (b ∷ bs) in
       let e : n ≡ suc (n - 1) = omega (arith, size-some (b ∷ bs)) in
       let g : drop (n - 1) bs ≡ drop n (b ∷ bs) = sym (ap (λ (j : ℕ). drop j (b ∷ bs)) e) in
-      ap (λ (x : Listing). cond (all isZero (b ∷ bs)) (ends true) (cond (goodRecord f (b ∷ bs)) (withRecord (take n (b ∷ bs)) x) (ends false)))
-      (skip (n - 1) bs ∙ ap (listing f) g)
+      ap (λ (x : RecordList). cond (all isZero (b ∷ bs)) (listEnds true) (cond (goodRecord f (b ∷ bs)) (withRecord (take n (b ∷ bs)) x) (listEnds false)))
+      (skip (n - 1) bs ∙ ap (recordList f) g)
 
   -- A good record, in parts.
   pub record Fine (t : List ℕ) : Type 0 where
@@ -73,13 +71,13 @@ module _ (f : Head) where
   good t h = and-both _ _ (le-leb _ _ (h .head)) (and-both _ _ (h .fields) (and-both _ _ (le-leb _ _ (h .size)) (h .rows)))
 
   -- A list that is whole begins with zeros only or with a good record.
-  pub whole-good : (t : List ℕ) → listing f t .whole ≡ true → all isZero t ≡ false → goodRecord f t ≡ true
+  pub whole-good : (t : List ℕ) → recordList f t .whole ≡ true → all isZero t ≡ false → goodRecord f t ≡ true
   whole-good t w z =
       let n = sizeIn f t in
-      let e : listing f t ≡ cond (goodRecord f t) (withRecord (take n t) (listing f (drop n t))) (ends false) = listing-step t ∙ rw z in
-      go (goodRecord f t) (sym w ∙ ap (λ (x : Listing). x .whole) e)
+      let e : recordList f t ≡ cond (goodRecord f t) (withRecord (take n t) (recordList f (drop n t))) (listEnds false) = listing-step t ∙ rw z in
+      go (goodRecord f t) (sym w ∙ ap (λ (x : RecordList). x .whole) e)
     where
-      go : (g : Bool) → true ≡ cond g (withRecord (take (sizeIn f t) t) (listing f (drop (sizeIn f t) t))) (ends false) .whole → g ≡ true
+      go : (g : Bool) → true ≡ cond g (withRecord (take (sizeIn f t) t) (recordList f (drop (sizeIn f t) t))) (listEnds false) .whole → g ≡ true
       go true e = refl
       go false e = sym e
 
@@ -133,7 +131,7 @@ module _ (f : Head) where
 
   -- A record that a scan finds.
   pub record Stands (t : List ℕ) (live : Bool) (code width size : ℕ) : Type 0 where
-    pub listed : listing f t ≡ withRecord (take size t) (listing f (drop size t))
+    pub listed : recordList f t ≡ withRecord (take size t) (recordList f (drop size t))
     pub live-is : isLive (take size t) ≡ live
     pub code-is : codeIn (take size t) ≡ code
     pub width-is : widthIn f (take size t) ≡ width
@@ -173,26 +171,26 @@ module _ (f : Head) where
           let k : sizeIn f t ≡ size = cc in
           subst (λ (j : Bool). Stands t j code width size) a (subst (λ (j : ℕ). Stands t (isLive t) j width size) b (subst (λ (j : ℕ). Stands t (isLive t) (codeIn t) j size) d (subst (Stands t (isLive t) (codeIn t) (widthIn f t)) k (stands t p q))))
 
-  pub scan-end : (t : List ℕ) → End ≡ scanOf f t → listing f t ≡ ends true
+  pub scan-end : (t : List ℕ) → End ≡ scanOf f t → recordList f t ≡ listEnds true
   unfolding scanOf
-  scan-end t e = listing-step t ∙ go (all isZero t) (goodRecord f t) (withRecord (take (sizeIn f t) t) (listing f (drop (sizeIn f t) t))) e
+  scan-end t e = listing-step t ∙ go (all isZero t) (goodRecord f t) (withRecord (take (sizeIn f t) t) (recordList f (drop (sizeIn f t) t))) e
     where
-      go : (z g : Bool) (x : Listing) → End ≡ cond z End (cond g (Record (isLive t) (codeIn t) (widthIn f t) (sizeIn f t)) Damaged) → cond z (ends true) (cond g x (ends false)) ≡ ends true
+      go : (z g : Bool) (x : RecordList) → End ≡ cond z End (cond g (Record (isLive t) (codeIn t) (widthIn f t) (sizeIn f t)) Damaged) → cond z (listEnds true) (cond g x (listEnds false)) ≡ listEnds true
       go true g x e = refl
       go false true x e = clash (cc)
       go false false x e = clash (cc)
 
-  pub scan-damaged : (t : List ℕ) → Damaged ≡ scanOf f t → listing f t ≡ ends false
+  pub scan-damaged : (t : List ℕ) → Damaged ≡ scanOf f t → recordList f t ≡ listEnds false
   unfolding scanOf
-  scan-damaged t e = listing-step t ∙ go (all isZero t) (goodRecord f t) (withRecord (take (sizeIn f t) t) (listing f (drop (sizeIn f t) t))) e
+  scan-damaged t e = listing-step t ∙ go (all isZero t) (goodRecord f t) (withRecord (take (sizeIn f t) t) (recordList f (drop (sizeIn f t) t))) e
     where
-      go : (z g : Bool) (x : Listing) → Damaged ≡ cond z End (cond g (Record (isLive t) (codeIn t) (widthIn f t) (sizeIn f t)) Damaged) → cond z (ends true) (cond g x (ends false)) ≡ ends false
+      go : (z g : Bool) (x : RecordList) → Damaged ≡ cond z End (cond g (Record (isLive t) (codeIn t) (widthIn f t) (sizeIn f t)) Damaged) → cond z (listEnds true) (cond g x (listEnds false)) ≡ listEnds false
       go true g x e = clash (cc)
       go false true x e = clash (cc)
       go false false x e = refl
 
   -- What a skim finds in a list that is whole is what a scan finds.
-  pub skim-scan : (t : List ℕ) (live : Bool) (code width size : ℕ) → listing f t .whole ≡ true → skimmed.Record live code width size ≡ skimOf f t → Record live code width size ≡ scanOf f t
+  pub skim-scan : (t : List ℕ) (live : Bool) (code width size : ℕ) → recordList f t .whole ≡ true → skimmed.Record live code width size ≡ skimOf f t → Record live code width size ≡ scanOf f t
   unfolding skimOf scanOf
   skim-scan t live code width size w e = go (all isZero t) refl e
     where

@@ -1,9 +1,9 @@
 -- A walk over the records of a pack, one record at a time.
 -- Assumes nothing.
-use mathlib.Core.Path.{_≡_, refl, sym, ap, _∙_, subst}
+use mathlib.Core.Path.{_≡_, refl, sym, ap, _∙_}
 use mathlib.Core.Bool.{Bool, true, false, cond, not, _&&_, _||_}
 use mathlib.Core.List.{List, [], _∷_}
-use Prim.Native.Nat.{ℕ, zero, suc, _+_, _-_, _*_, _≤_, _<_}
+use Prim.Native.Nat.{ℕ, _+_, _-_, _*_, _≤_, _<_}
 use native.Mathlib.Omega.{arith}
 use native.Mathlib.Nat.{add-zero, zero-add, add-assoc}
 use lib.Dec.{eqb}
@@ -12,7 +12,6 @@ use lib.Seq.{drop-drop}
 use Rattle.ground.proofs.Runs.{rest-is}
 use Rattle.ground.proofs.Tests.{clash}
 use Rattle.records.specs.declared.Head.{Head}
-use Rattle.records.specs.declared.Scan.{Scan}
 use Rattle.records.specs.declared.Scan.the-variants as scanned
 use Rattle.records.specs.declared.Skim.the-variants as skimmed
 use Rattle.records.specs.declared.Place.{Place}
@@ -23,21 +22,20 @@ use Rattle.records.specs.declared.Wanted.{Wanted}
 use Rattle.records.specs.declared.Wanted.the-variants.{Live, Free}
 use Rattle.records.specs.declared.Met.{Met}
 use Rattle.records.specs.declared.Met.the-variants.{At, End}
-use Rattle.records.specs.declared.Verdict.{Verdict}
 use Rattle.records.specs.declared.Verdict.the-variants.{Sound, Broken}
 use Rattle.records.specs.Versions.{recordHeadLength}
-use Rattle.records.specs.Records.{isLive, codeIn, widthIn, Listing, ends, withRecord, listing, isLiveOf, hasLive, noneTwice, liveCount, isFreeOf}
+use Rattle.records.specs.Records.{isLive, codeIn, widthIn, RecordList, listEnds, withRecord, recordList, isLiveOf, hasLive, noneTwice, liveCount, isFreeOf}
 use Rattle.records.specs.Places.{placeIn, isPlace, spotIn}
-use Rattle.records.specs.Steps.{scanOf, skimOf, Walkable, isWanted, metIn, counted, verdict}
-use Rattle.records.proofs.ListingLaws.{Stands, scan-record, scan-end, scan-damaged, skim-scan, skim-scan-end}
+use Rattle.records.specs.Steps.{scanOf, skimOf, Walkable, isWanted, metIn, countedFrom, soundness}
+use Rattle.records.proofs.ListingLaws.{scan-record, scan-end, scan-damaged, skim-scan, skim-scan-end}
 
 -- What the records from a place on are.
 abbrev pub recordsAt : Head → List ℕ → ℕ → List (List ℕ)
-recordsAt f s at = listing f (drop at s) .records
+recordsAt f s at = recordList f (drop at s) .records
 
 -- A record that stands at a place, with all that a walk needs of it.
 pub record Next (f : Head) (s : List ℕ) (at : ℕ) (live : Bool) (code width size : ℕ) : Type 0 where
-  pub listed : listing f (drop at s) ≡ withRecord (take size (drop at s)) (listing f (drop (at + size) s))
+  pub listed : recordList f (drop at s) ≡ withRecord (take size (drop at s)) (recordList f (drop (at + size) s))
   pub live-is : isLive (take size (drop at s)) ≡ live
   pub code-is : codeIn (take size (drop at s)) ≡ code
   pub width-is : widthIn f (take size (drop at s)) ≡ width
@@ -78,7 +76,7 @@ module _ (f : Head) (s : List ℕ) (at : ℕ) where
   next-at live code width size e =
       let x = scan-record f (drop at s) live code width size (e ∙ ap (scanOf f) (rest-is s at)) in
       record {
-        listed = x .listed ∙ ap (λ (l : List ℕ). withRecord (take size (drop at s)) (listing f l)) (drop-drop size at s);
+        listed = x .listed ∙ ap (λ (l : List ℕ). withRecord (take size (drop at s)) (recordList f l)) (drop-drop size at s);
         live-is = x .live-is;
         code-is = x .code-is;
         width-is = x .width-is;
@@ -88,28 +86,28 @@ module _ (f : Head) (s : List ℕ) (at : ℕ) where
         inside = λ h. omega (arith, x .inside, length-drop at s);
       }
 
-  pub end-at : scanned.End ≡ scanOf f (take (length s - at) (drop at s)) → listing f (drop at s) ≡ ends true
+  pub end-at : scanned.End ≡ scanOf f (take (length s - at) (drop at s)) → recordList f (drop at s) ≡ listEnds true
   end-at e = scan-end f (drop at s) (e ∙ ap (scanOf f) (rest-is s at))
 
-  pub damaged-at : scanned.Damaged ≡ scanOf f (take (length s - at) (drop at s)) → listing f (drop at s) ≡ ends false
+  pub damaged-at : scanned.Damaged ≡ scanOf f (take (length s - at) (drop at s)) → recordList f (drop at s) ≡ listEnds false
   damaged-at e = scan-damaged f (drop at s) (e ∙ ap (scanOf f) (rest-is s at))
 
   -- A walk over the heads alone.
   module _ (w : Walkable f s at) where
-    part-whole : listing f (take (length s - at) (drop at s)) .whole ≡ true
-    part-whole = ap (λ (l : List ℕ). listing f l .whole) (rest-is s at) ∙ w .whole
+    part-whole : recordList f (take (length s - at) (drop at s)) .whole ≡ true
+    part-whole = ap (λ (l : List ℕ). recordList f l .whole) (rest-is s at) ∙ w .whole
 
-    pub walk-part : (f .height ≤ 32) × (listing f (take (length s - at) (drop at s)) .whole ≡ true)
+    pub walk-part : (f .height ≤ 32) × (recordList f (take (length s - at) (drop at s)) .whole ≡ true)
     walk-part = (w .low, part-whole)
 
     pub skim-at : (live : Bool) (code width size : ℕ) → skimmed.Record live code width size ≡ skimOf f (take (length s - at) (drop at s)) → Next f s at live code width size
     skim-at live code width size e = next-at live code width size (skim-scan f (take (length s - at) (drop at s)) live code width size part-whole e)
 
-    pub skim-end : skimmed.End ≡ skimOf f (take (length s - at) (drop at s)) → listing f (drop at s) ≡ ends true
+    pub skim-end : skimmed.End ≡ skimOf f (take (length s - at) (drop at s)) → recordList f (drop at s) ≡ listEnds true
     skim-end e = end-at (skim-scan-end f (take (length s - at) (drop at s)) e)
 
     pub walk-on : (live : Bool) (code width size : ℕ) → Next f s at live code width size → Walkable f s (at + size)
-    walk-on live code width size x = record { low = w .low; inside = x .inside (w .inside); whole = sym (ap (λ (y : Listing). y .whole) (x .listed)) ∙ w .whole }
+    walk-on live code width size x = record { low = w .low; inside = x .inside (w .inside); whole = sym (ap (λ (y : RecordList). y .whole) (x .listed)) ∙ w .whole }
 
   module _ (live : Bool) (c width size : ℕ) (x : Next f s at live c width size) where
     r : List ℕ
@@ -122,7 +120,7 @@ module _ (f : Head) (s : List ℕ) (at : ℕ) where
     met-step : (wanted : Wanted) → metIn f wanted at (recordsAt f s at) ≡ cond (isWanted wanted live c width) (At at width) (metIn f wanted (at + size) more)
     unfolding metIn r more
     met-step wanted =
-        ap (λ (y : Listing). metIn f wanted at (y .records)) (x .listed) ∙
+        ap (λ (y : RecordList). metIn f wanted at (y .records)) (x .listed) ∙
         ap (λ (b : Bool). cond (isWanted wanted b (codeIn r) (widthIn f r)) (At at (widthIn f r)) (metIn f wanted (at + length r) more)) (x .live-is) ∙
         ap (λ (b : ℕ). cond (isWanted wanted live b (widthIn f r)) (At at (widthIn f r)) (metIn f wanted (at + length r) more)) (x .code-is) ∙
         ap (λ (b : ℕ). cond (isWanted wanted live c b) (At at b) (metIn f wanted (at + length r) more)) (x .width-is) ∙
@@ -143,11 +141,11 @@ module _ (f : Head) (s : List ℕ) (at : ℕ) where
     place-next code e = sym (met-place f code at (recordsAt f s at)) ∙ ap placeOf (met-next (Live code) e) ∙ met-place f code (at + size) (recordsAt f s (at + size))
 
     -- The count of the live records, if all are good.
-    pub counted-next : (n : ℕ) → counted n (listing f (drop at s)) ≡ counted (n + cond live 1 0) (listing f (drop (at + size) s))
-    unfolding counted liveCount r more
+    pub counted-next : (n : ℕ) → countedFrom n (recordList f (drop at s)) ≡ countedFrom (n + cond live 1 0) (recordList f (drop (at + size) s))
+    unfolding countedFrom liveCount r more
     counted-next n =
-        let w = listing f (drop (at + size) s) .whole in
-        ap (counted n) (x .listed) ∙
+        let w = recordList f (drop (at + size) s) .whole in
+        ap (countedFrom n) (x .listed) ∙
         ap (λ (b : Bool). cond w (Sound (n + (cond b 1 0 + liveCount more))) Broken) (x .live-is) ∙
         ap (λ (b : ℕ). cond w (Sound b) Broken) (sym (add-assoc n (cond live 1 0) (liveCount more)))
 
@@ -155,7 +153,7 @@ module _ (f : Head) (s : List ℕ) (at : ℕ) where
     twice-step : noneTwice (recordsAt f s at) ≡ (not (live && hasLive c more) && noneTwice more)
     unfolding noneTwice r more
     twice-step =
-        ap (λ (y : Listing). noneTwice (y .records)) (x .listed) ∙
+        ap (λ (y : RecordList). noneTwice (y .records)) (x .listed) ∙
         ap (λ (b : Bool). not (b && hasLive (codeIn r) more) && noneTwice more) (x .live-is) ∙
         ap (λ (b : ℕ). not (live && hasLive b more) && noneTwice more) (x .code-is)
 
@@ -167,53 +165,53 @@ module _ (f : Head) (s : List ℕ) (at : ℕ) where
     unfolding more
     twice-next e = twice-step ∙ ap (λ (b : Bool). not b && noneTwice more) e
 
-  pub met-none : (wanted : Wanted) (b : Bool) → listing f (drop at s) ≡ ends b → metIn f wanted at (recordsAt f s at) ≡ End at
+  pub met-none : (wanted : Wanted) (b : Bool) → recordList f (drop at s) ≡ listEnds b → metIn f wanted at (recordsAt f s at) ≡ End at
   unfolding metIn
-  met-none wanted b e = ap (λ (x : Listing). metIn f wanted at (x .records)) e
+  met-none wanted b e = ap (λ (x : RecordList). metIn f wanted at (x .records)) e
 
-  pub place-none : (code : ℕ) (b : Bool) → listing f (drop at s) ≡ ends b → placeIn f code at (recordsAt f s at) ≡ place.Nowhere
+  pub place-none : (code : ℕ) (b : Bool) → recordList f (drop at s) ≡ listEnds b → placeIn f code at (recordsAt f s at) ≡ place.Nowhere
   place-none code b e = sym (met-place f code at (recordsAt f s at)) ∙ ap placeOf (met-none (Live code) b e)
 
-  pub twice-none : (b : Bool) → listing f (drop at s) ≡ ends b → noneTwice (recordsAt f s at) ≡ true
+  pub twice-none : (b : Bool) → recordList f (drop at s) ≡ listEnds b → noneTwice (recordsAt f s at) ≡ true
   unfolding noneTwice
-  twice-none b e = ap (λ (x : Listing). noneTwice (x .records)) e
+  twice-none b e = ap (λ (x : RecordList). noneTwice (x .records)) e
 
-  pub counted-end : (n : ℕ) → listing f (drop at s) ≡ ends true → counted n (listing f (drop at s)) ≡ Sound n
-  unfolding counted liveCount
-  counted-end n e = ap (counted n) e ∙ ap Sound (add-zero n)
+  pub counted-end : (n : ℕ) → recordList f (drop at s) ≡ listEnds true → countedFrom n (recordList f (drop at s)) ≡ Sound n
+  unfolding countedFrom liveCount
+  counted-end n e = ap (countedFrom n) e ∙ ap Sound (add-zero n)
 
-  pub counted-damaged : (n : ℕ) → listing f (drop at s) ≡ ends false → counted n (listing f (drop at s)) ≡ Broken
-  unfolding counted
-  counted-damaged n e = ap (counted n) e
+  pub counted-damaged : (n : ℕ) → recordList f (drop at s) ≡ listEnds false → countedFrom n (recordList f (drop at s)) ≡ Broken
+  unfolding countedFrom
+  counted-damaged n e = ap (countedFrom n) e
 
 -- The test of all records is the count, where no code repeats.
-pub record Countable (n : ℕ) (x : Listing) : Type 0 where
+pub record Countable (n : ℕ) (x : RecordList) : Type 0 where
   pub whole : x .whole ≡ true
   pub count : n ≡ liveCount (x .records)
 
-module _ (x : Listing) where
-  pub counted-whole : (n : ℕ) → Sound n ≡ counted 0 x → Countable n x
-  unfolding counted
+module _ (x : RecordList) where
+  pub counted-whole : (n : ℕ) → Sound n ≡ countedFrom 0 x → Countable n x
+  unfolding countedFrom
   counted-whole n e = go (x .whole) refl e
     where
       go : (w : Bool) → x .whole ≡ w → Sound n ≡ cond w (Sound (0 + liveCount (x .records))) Broken → Countable n x
       go true p e = let k : n ≡ 0 + liveCount (x .records) = cc in record { whole = p; count = k ∙ zero-add (liveCount (x .records)) }
       go false p e = clash (cc)
 
-  pub verdict-broken : Broken ≡ counted 0 x → Broken ≡ verdict x
-  unfolding counted verdict
+  pub verdict-broken : Broken ≡ countedFrom 0 x → Broken ≡ soundness x
+  unfolding countedFrom soundness
   verdict-broken e = go (x .whole) (noneTwice (x .records)) e
     where
       go : (w b : Bool) → Broken ≡ cond w (Sound (0 + liveCount (x .records))) Broken → Broken ≡ cond (w && b) (Sound (liveCount (x .records))) Broken
       go true b e = clash (cc)
       go false b e = refl
 
-  pub verdict-sound : (n : ℕ) → Countable n x → noneTwice (x .records) ≡ true → Sound n ≡ verdict x
-  unfolding verdict
+  pub verdict-sound : (n : ℕ) → Countable n x → noneTwice (x .records) ≡ true → Sound n ≡ soundness x
+  unfolding soundness
   verdict-sound n k e = ap Sound (k .count) ∙ sym (rw (k .whole, e))
 
-  pub verdict-twice : (n : ℕ) → Countable n x → noneTwice (x .records) ≡ false → Broken ≡ verdict x
-  unfolding verdict
+  pub verdict-twice : (n : ℕ) → Countable n x → noneTwice (x .records) ≡ false → Broken ≡ soundness x
+  unfolding soundness
   verdict-twice n k e = sym (rw (k .whole, e))
 
 -- A place is found exactly where there is such a live record.

@@ -2,7 +2,7 @@
 -- Assumes nothing.
 use Prim.Native.Nat.{ℕ, zero, suc, _+_, _-_, _*_}
 use mathlib.Core.Bool.{Bool, true, false, cond, not, _&&_, _||_}
-use mathlib.Core.List.{List, [], _∷_, _++_}
+use mathlib.Core.List.{List, [], _∷_}
 use lib.Dec.{eqb, leb}
 use lib.ListN.{length, take, drop, getD}
 use Rattle.ground.specs.Runs.{all}
@@ -18,8 +18,8 @@ isZero b = eqb b 0
 abbrev pub live : ℕ
 live = 1
 
-abbrev pub free : ℕ
-free = 2
+abbrev pub freeStatus : ℕ
+freeStatus = 2
 
 unfoldable pub isLive : List ℕ → Bool
 isLive r = eqb (getD r 0 0) live
@@ -45,7 +45,7 @@ sizeIn f r = recordHeadLength (f .version) + f .height * widthIn f r
 
 -- "Damaged is whatever breaks this layout, .. code -1, a width over 199".
 unfoldable pub goodFields : ℕ → ℕ → ℕ → ℕ → Bool
-goodFields version status code width = not (eqb code minusOne) && (leb width (maxWidth version) && (eqb status live || eqb status free))
+goodFields version status code width = not (eqb code minusOne) && (leb width (maxWidth version) && (eqb status live || eqb status freeStatus))
 
 -- A record stands at the start of a list: its head and its rows are all there and good, with no "row byte that 01 refuses".
 unfoldable pub goodRecord : Head → List ℕ → Bool
@@ -54,27 +54,27 @@ goodRecord f t =
     (goodFields (f .version) (getD t 0 0) (codeIn t) (widthIn f t) && (leb (sizeIn f t) (length t) && all (legalByte (f .hardblank .0)) (rowsIn f t)))
 
 -- The records at the start of a list, and whether all behind them is zero.
-pub record Listing : Type 0 where
+pub record RecordList : Type 0 where
   pub records : List (List ℕ)
   pub whole : Bool
 
-abbrev pub ends : Bool → Listing
-ends b = record { records = []; whole = b }
+abbrev pub listEnds : Bool → RecordList
+listEnds b = record { records = []; whole = b }
 
-abbrev pub withRecord : List ℕ → Listing → Listing
+abbrev pub withRecord : List ℕ → RecordList → RecordList
 withRecord r more = record { records = r ∷ more .records; whole = more .whole }
 
 -- "Then records .. Behind the last record all is zero." The first k bytes belong to the record before.
-unfoldable pub recordsFrom : Head → ℕ → List ℕ → Listing
-recordsFrom f k [] = ends true
+unfoldable pub recordsFrom : Head → ℕ → List ℕ → RecordList
+recordsFrom f k [] = listEnds true
 recordsFrom f (suc k) (b ∷ bs) = recordsFrom f k bs
 recordsFrom f zero (b ∷ bs) =
-    cond (all isZero (b ∷ bs)) (ends true)
+    cond (all isZero (b ∷ bs)) (listEnds true)
     (cond (goodRecord f (b ∷ bs)) (withRecord (take (sizeIn f (b ∷ bs)) (b ∷ bs)) (recordsFrom f (sizeIn f (b ∷ bs) - 1) bs))
-    (ends false))
+    (listEnds false))
 
-abbrev pub listing : Head → List ℕ → Listing
-listing f t = recordsFrom f 0 t
+abbrev pub recordList : Head → List ℕ → RecordList
+recordList f t = recordsFrom f 0 t
 
 -- A live record of a code.
 unfoldable pub isLiveOf : ℕ → List ℕ → Bool

@@ -19,7 +19,7 @@ use Rattle.records.specs.declared.Met.{Met}
 use Rattle.records.specs.declared.Met.the-variants.{At, End}
 use Rattle.records.specs.declared.Verdict.{Verdict}
 use Rattle.records.specs.declared.Verdict.the-variants.{Sound, Broken}
-use Rattle.records.specs.Records.{isZero, isLive, codeIn, widthIn, sizeIn, goodRecord, Listing, listing, noneTwice, liveCount}
+use Rattle.records.specs.Records.{isZero, isLive, codeIn, widthIn, sizeIn, goodRecord, RecordList, recordList, noneTwice, liveCount}
 
 -- What stands at the start of a list.
 unfoldable pub scanOf : Head → List ℕ → Scan
@@ -33,7 +33,7 @@ skimOf f t = cond (all isZero t) skimmed.End (skimmed.Record (isLive t) (codeIn 
 pub record Walkable (f : Head) (s : List ℕ) (from : ℕ) : Type 0 where
   pub low : f .height ≤ maxHeight
   pub inside : from ≤ length s
-  pub whole : listing f (drop from s) .whole ≡ true
+  pub whole : recordList f (drop from s) .whole ≡ true
 
 -- Whether a record is the one that a walk seeks.
 abbrev pub isWanted : Wanted → Bool → ℕ → ℕ → Bool
@@ -46,9 +46,9 @@ metIn f wanted at [] = End at
 metIn f wanted at (r ∷ rs) = cond (isWanted wanted (isLive r) (codeIn r) (widthIn f r)) (At at (widthIn f r)) (metIn f wanted (at + length r) rs)
 
 -- The number of live records, after n of them, if each record is good and all is zero behind the last.
-unfoldable pub counted : ℕ → Listing → Verdict
-counted n x = cond (x .whole) (Sound (n + liveCount (x .records))) Broken
+unfoldable pub countedFrom : ℕ → RecordList → Verdict
+countedFrom n x = cond (x .whole) (Sound (n + liveCount (x .records))) Broken
 
 -- The test of all records.
-unfoldable pub verdict : Listing → Verdict
-verdict x = cond (x .whole && noneTwice (x .records)) (Sound (liveCount (x .records))) Broken
+unfoldable pub soundness : RecordList → Verdict
+soundness x = cond (x .whole && noneTwice (x .records)) (Sound (liveCount (x .records))) Broken

@@ -13,9 +13,9 @@ ghost use Rattle.ground.specs.Limits.{maxHeight};
 ghost use Rattle.ground.specs.Runs.{all};
 ghost use Rattle.records.specs.Codes.{bitsOf};
 ghost use Rattle.records.specs.Versions.{headLength, widthLength, recordHeadLength, maxWidth};
-ghost use Rattle.records.specs.Records.{isZero, goodFields, listing, hasLive, noneTwice};
+ghost use Rattle.records.specs.Records.{isZero, goodFields, recordList, hasLive, noneTwice};
 ghost use Rattle.records.specs.Places.{placeIn, isPlace, spotIn};
-ghost use Rattle.records.specs.Steps.{scanOf, skimOf, Walkable, isWanted, metIn, counted, verdict};
+ghost use Rattle.records.specs.Steps.{scanOf, skimOf, Walkable, isWanted, metIn, countedFrom, soundness};
 
 // What the head of a pack says.
 pub struct Head {
@@ -190,7 +190,7 @@ pub fn scan_part(head: Head, t: &[u8]) -> Scan
 
 // What stands at the start of a part that is known to be whole. It looks at a record's head only.
 pub fn skim_part(head: Head, t: &[u8]) -> Skim
-    requires { ⌜ (head .height ≤ maxHeight) × (listing head (now t) .whole ≡ true) ⌝ }
+    requires { ⌜ (head .height ≤ maxHeight) × (recordList head (now t) .whole ≡ true) ⌝ }
     ensures { λ r. ⌜ r ≡ skimOf head (now (t .entry)) ⌝ }
 {
     if t.len() == 0 {
@@ -226,7 +226,7 @@ fn is_wanted(wanted: Wanted, live: bool, code: usize, width: usize) -> bool
 // The first record that is wanted, from a place on.
 fn first_from(head: Head, s: &[u8], from: usize, wanted: Wanted) -> Met
     requires { ⌜ Walkable head (now s) from ⌝ }
-    ensures { λ r. ⌜ r ≡ metIn head wanted from (listing head (drop from (now (s .entry))) .records) ⌝ }
+    ensures { λ r. ⌜ r ≡ metIn head wanted from (recordList head (drop from (now (s .entry))) .records) ⌝ }
 {
     let mut at = from;
     loop {
@@ -252,7 +252,7 @@ fn first_from(head: Head, s: &[u8], from: usize, wanted: Wanted) -> Met
 // Where the live record of a code is, from a place on.
 pub fn find_from(head: Head, s: &[u8], from: usize, code: usize) -> Place
     requires { ⌜ Walkable head (now s) from ⌝ }
-    ensures { λ r. ⌜ r ≡ placeIn head code from (listing head (drop from (now (s .entry))) .records) ⌝ }
+    ensures { λ r. ⌜ r ≡ placeIn head code from (recordList head (drop from (now (s .entry))) .records) ⌝ }
 {
     match first_from(head, s, from, Wanted::Live(code)) {
         Met::At { at, width } => Place::At { at, width },
@@ -263,7 +263,7 @@ pub fn find_from(head: Head, s: &[u8], from: usize, code: usize) -> Place
 // The first free record of a width, or the end of the records, from a place on.
 pub fn spot_from(head: Head, s: &[u8], from: usize, width: usize) -> Spot
     requires { ⌜ Walkable head (now s) from ⌝ }
-    ensures { λ r. ⌜ r ≡ spotIn head width from (listing head (drop from (now (s .entry))) .records) ⌝ }
+    ensures { λ r. ⌜ r ≡ spotIn head width from (recordList head (drop from (now (s .entry))) .records) ⌝ }
 {
     match first_from(head, s, from, Wanted::Free(width)) {
         Met::At { at, width: _ } => Spot::Free(at),
@@ -283,7 +283,7 @@ pub fn is_place(p: Place) -> bool
 // Whether a live record's code is that of a live record from a place on.
 fn is_repeated(head: Head, s: &[u8], from: usize, live: bool, code: usize) -> bool
     requires { ⌜ Walkable head (now s) from ⌝ }
-    ensures { λ r. ⌜ r ≡ (live && hasLive code (listing head (drop from (now (s .entry))) .records)) ⌝ }
+    ensures { λ r. ⌜ r ≡ (live && hasLive code (recordList head (drop from (now (s .entry))) .records)) ⌝ }
 {
     if live {
         return is_place(find_from(head, s, from, code));
@@ -294,7 +294,7 @@ fn is_repeated(head: Head, s: &[u8], from: usize, live: bool, code: usize) -> bo
 // Whether no two live records from a place on have one code. It looks at records' heads only; quadratic in the number of live records.
 fn none_twice(head: Head, s: &[u8], from: usize) -> bool
     requires { ⌜ Walkable head (now s) from ⌝ }
-    ensures { λ r. ⌜ r ≡ noneTwice (listing head (drop from (now (s .entry))) .records) ⌝ }
+    ensures { λ r. ⌜ r ≡ noneTwice (recordList head (drop from (now (s .entry))) .records) ⌝ }
 {
     let mut at = from;
     loop {
@@ -328,7 +328,7 @@ fn one_more(n: usize, live: bool) -> usize
 // How many records from a place on are live, if each is good and all is zero behind the last.
 fn count_records(head: Head, s: &[u8], from: usize) -> Verdict
     requires { ⌜ (head .height ≤ maxHeight) × (from ≤ length (now s)) ⌝ }
-    ensures { λ r. ⌜ r ≡ counted 0 (listing head (drop from (now (s .entry)))) ⌝ }
+    ensures { λ r. ⌜ r ≡ countedFrom 0 (recordList head (drop from (now (s .entry)))) ⌝ }
 {
     let mut at = from;
     let mut n: usize = 0;
@@ -356,7 +356,7 @@ fn count_records(head: Head, s: &[u8], from: usize) -> Verdict
 // The test of all records from a place on.
 pub fn test_records(head: Head, s: &[u8], from: usize) -> Verdict
     requires { ⌜ (head .height ≤ maxHeight) × (from ≤ length (now s)) ⌝ }
-    ensures { λ r. ⌜ r ≡ verdict (listing head (drop from (now (s .entry)))) ⌝ }
+    ensures { λ r. ⌜ r ≡ soundness (recordList head (drop from (now (s .entry)))) ⌝ }
 {
     match count_records(head, s, from) {
         Verdict::Sound(n) => {

@@ -7,14 +7,12 @@ use mathlib.Core.List.{List}
 use native.Mathlib.Omega.{arith}
 use lib.IntN.{ℤ, pos}
 use lib.ListN.{getD, length, take}
-use Rattle.ground.specs.Limits.{maxFontLength, maxHeight}
+use Rattle.ground.specs.Limits.{maxHeight}
 use Rattle.subchars.specs.declared.Code.{Code}
-use Rattle.join.specs.Writing.{Like}
-use Rattle.figure.specs.Scratch.{characterAt, RowsIn}
 use Rattle.header.specs.declared.Header.{Header}
 use Rattle.chars.specs.declared.Entry.{Entry}
 use Rattle.chars.specs.Codes.{code, sameCode}
-use Rattle.font.specs.Font.{says, format, reading}
+use Rattle.font.specs.Font.{format}
 use Rattle.font.proofs.ReadingLaws.{font-read}
 use Rattle.index.specs.Index.{CharacterRoom, Lists}
 use Rattle.index.specs.Latest.{Latest}
@@ -24,15 +22,15 @@ use Rattle.reader.specs.Reader.{entryAt, used, lookedUp}
 use Rattle.reader.proofs.UseLaws.{used-at}
 use Rattle.reader.proofs.ThreeLaws.{own-found, other-stood-in, unused-nothing, used-zero}
 use Rattle.request.proofs.RowLaws.{RowStands, row-stands}
-use Rattle.lines.specs.Lines.{lineEnd, after}
+use Rattle.lines.specs.Lines.{after}
 use Rattle.heads.proofs.FindLaws.{some, low}
 use Rattle.source.specs.declared.Origin.{Origin}
 use Rattle.source.specs.declared.Origin.the-variants.{Font, Two, Pack}
-use Rattle.source.specs.declared.Chosen.{Chosen}
 use Rattle.source.specs.declared.Chosen.the-variants as chosen
 use Rattle.source.specs.Source.{nothing, Source, characterOf, choiceOf, fontSource}
 use Rattle.source.specs.Counting.{StandsIn}
-use Rattle.source.specs.Held.{FontHeld, FontGives, GivesBy, Gives}
+use Rattle.source.specs.Held.{FontGives, GivesBy, Gives}
+use Rattle.fontlists.specs.Held.{FontHeld}
 use Rattle.source.specs.Steps.{RowPlaces, Stands, Shows, ChosenAs, asOwn}
 use Rattle.source.proofs.CountLaws.{with-code-0, without-code-0}
 

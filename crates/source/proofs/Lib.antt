@@ -3,5 +3,4 @@ pub mod MarkLaws
 pub mod CountLaws
 pub mod CharacterLaws
 pub mod PackLaws
-pub mod HeldLaws
 pub mod TwoLaws

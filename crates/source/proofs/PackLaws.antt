@@ -1,33 +1,30 @@
 -- The character that a pack has for a code: its rows are parts of the pack, and what was chosen is what the pack has.
 -- Assumes nothing.
 use mathlib.Core.Path.{_≡_, refl, sym, ap, ap₂, _∙_, subst}
-use mathlib.Core.Bool.{Bool, true, false, cond, true≢false}
+use mathlib.Core.Bool.{Bool, true, false, true≢false}
 use mathlib.Core.List.{List}
 use Prim.Native.Nat.{ℕ, _+_, _*_, _≤_, _<_}
 use native.Mathlib.Omega.{arith}
 use native.Mathlib.Nat.{mul-le-mul-right}
-use lib.IntN.{ℤ, pos}
+use lib.IntN.{pos}
 use lib.ListN.{length, take, drop, getD}
 use lib.Seq.{getD-take, getD-drop}
-use Rattle.ground.specs.Limits.{maxHeight}
 use Rattle.subchars.specs.declared.Code.{Code}
-use Rattle.join.specs.Join.{exactBlock}
-use Rattle.join.proofs.Rows.{row-next}
-use Rattle.figure.specs.Scratch.{characterAt}
+use Rattle.blocks.specs.Block.{exactBlock}
+use Rattle.blocks.proofs.Rows.{row-next}
 use Rattle.records.specs.declared.Head.{Head}
 use Rattle.records.specs.declared.Place.{Place}
 use Rattle.records.specs.declared.Place.the-variants.{At, Nowhere}
 use Rattle.records.specs.Codes.{bitsOf, isCode}
 use Rattle.records.specs.Versions.{headLength, recordHeadLength}
-use Rattle.records.specs.Letters.{Letter, letter, noLetter, letterIn}
+use Rattle.records.specs.Letters.{Letter, letterIn}
 use Rattle.records.specs.Places.{placeIn, isPlace}
 use Rattle.edits.proofs.PlaceLaws.{readAt}
-use Rattle.heads.specs.Pack.{headIn, Pack, says, meaning}
+use Rattle.heads.specs.Pack.{headIn, says, meaning}
 use Rattle.heads.proofs.FindLaws.{head-is, short, some, low, place-in, letter-there}
 use Rattle.letters.specs.Held.{Held, LettersHeld}
-use Rattle.source.specs.declared.Chosen.{Chosen}
 use Rattle.source.specs.declared.Chosen.the-variants as chosen
-use Rattle.source.specs.Source.{Choice, found, stoodIn, nothing, Source, packLetter, ofLetters, packSource}
+use Rattle.source.specs.Source.{Source, packLetter, ofLetters, packSource}
 use Rattle.source.specs.Counting.{StandsIn}
 use Rattle.source.specs.Held.{PackGives}
 use Rattle.source.specs.Steps.{Shows, ChosenAs, PlaceIn, letterChoice}

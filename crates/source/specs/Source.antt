@@ -6,7 +6,7 @@ use mathlib.Core.List.{List}
 use lib.IntN.{ℤ, pos}
 use lib.ListN.{getD}
 use Rattle.subchars.specs.declared.Code.{Code}
-use Rattle.join.specs.Join.{Block, exactBlock}
+use Rattle.blocks.specs.Block.{Block, exactBlock}
 use Rattle.lines.specs.Lines.{after}
 use Rattle.chars.specs.declared.Entry.{Entry}
 use Rattle.reader.specs.declared.LookedUp.{LookedUp}
@@ -15,9 +15,9 @@ use Rattle.reader.specs.Reader.{lookedUp}
 use Rattle.records.specs.declared.Head.{Head}
 use Rattle.records.specs.Codes.{bitsOf, isCode}
 use Rattle.records.specs.Letters.{Letter, letter, noLetter, letterIn}
-use Rattle.source.specs.declared.two.LookedUpInTwo.{LookedUpInTwo}
-use Rattle.source.specs.declared.two.LookedUpInTwo.the-variants as two
-use Rattle.source.specs.TwoFonts.{bytesIn, lookedUpInTwo}
+use Rattle.fontlists.specs.declared.two.LookedUpInTwo.{LookedUpInTwo}
+use Rattle.fontlists.specs.declared.two.LookedUpInTwo.the-variants as two
+use Rattle.fontlists.specs.TwoFonts.{bytesIn, lookedUpInTwo}
 
 -- A code's own character, with its width and rows; the one that stands in for it; or nothing.
 pub data Choice : Type 0 where

@@ -6,13 +6,11 @@ use mathlib.Core.Bool.{Bool, true, false}
 use mathlib.Core.List.{List}
 use lib.ListN.{length, take, drop, getD}
 use Rattle.ground.specs.Limits.{maxFontLength, maxHeight, maxPackLength}
-use Rattle.join.specs.Join.{Block, exactBlock}
-use Rattle.join.specs.Writing.{Like}
-use Rattle.figure.specs.Scratch.{characterAt, RowsIn}
+use Rattle.blocks.specs.Block.{Block, exactBlock}
+use Rattle.blocks.specs.Writing.{Like}
+use Rattle.laying.specs.Laying.{characterAt, RowsIn}
 use Rattle.lines.specs.Lines.{lineEnd, after}
 use Rattle.chars.specs.declared.Entry.{Entry}
-use Rattle.reader.specs.declared.LookedUp.{LookedUp}
-use Rattle.reader.specs.declared.LookedUp.the-variants as one
 use Rattle.records.specs.declared.Head.{Head}
 use Rattle.records.specs.declared.Place.{Place}
 use Rattle.records.specs.declared.Place.the-variants.{At, Nowhere}
@@ -20,10 +18,7 @@ use Rattle.records.specs.Versions.{recordHeadLength}
 use Rattle.source.specs.declared.Chosen.{Chosen}
 use Rattle.source.specs.declared.Chosen.the-variants.{Character, Nothing}
 use Rattle.source.specs.declared.Picked.{Picked}
-use Rattle.source.specs.TwoFonts.{bytesIn}
-use Rattle.source.specs.declared.two.Which.the-variants.{First, Second}
-use Rattle.source.specs.declared.two.LookedUpInTwo.{LookedUpInTwo}
-use Rattle.source.specs.declared.two.LookedUpInTwo.the-variants as two
+use Rattle.fontlists.specs.TwoFonts.{bytesIn}
 use Rattle.source.specs.Source.{Choice, found, stoodIn, nothing}
 
 -- h rows of width w, from the line that starts at a place on: each is a part of its line.
@@ -81,13 +76,3 @@ abbrev pub letterChoice : Head → List ℕ → Bool → Place → Choice
 letterChoice f s true (At p w) = found (exactBlock w (take (f .height * w) (drop (p + recordHeadLength (f .version)) s)))
 letterChoice f s false (At p w) = stoodIn (exactBlock w (take (f .height * w) (drop (p + recordHeadLength (f .version)) s)))
 letterChoice f s own Nowhere = nothing
-
--- What looking a code up in each of two fonts comes to: no character stands in where either has the code itself.
-abbrev pub eitherOf : LookedUp → LookedUp → LookedUpInTwo
-eitherOf (one.Found e) second = two.Found First e
-eitherOf (one.StoodIn e) (one.Found f) = two.Found Second f
-eitherOf (one.StoodIn e) (one.StoodIn f) = two.StoodIn First e
-eitherOf (one.StoodIn e) one.Nothing = two.StoodIn First e
-eitherOf one.Nothing (one.Found f) = two.Found Second f
-eitherOf one.Nothing (one.StoodIn f) = two.StoodIn Second f
-eitherOf one.Nothing one.Nothing = two.Nothing

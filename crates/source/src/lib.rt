@@ -1,28 +1,24 @@
 // Where the characters of a drawing come from, a font, two fonts or a pack that were read into lists, and the character that they have for a code.
 pub mod packs;
-pub mod two;
+mod two;
 
 use chars::Entry;
-use index::latest;
+use fontlists::two::Which;
 use lines::Cursor;
 use lines::LineStep;
-use reader::FontAnswer;
 use reader::Use;
 use subchars::Code;
-use two::Which;
 ghost use mathlib.Core.Path.{_≡_};
 ghost use mathlib.Core.Bool.{true};
 ghost use mathlib.Core.List.{List};
 ghost use Prim.Native.Nat.{ℕ, _+_, _^_, _<_, _≤_};
 ghost use lib.ListN.{length};
-ghost use Rattle.ground.specs.Limits.{maxHeight, maxCharacters};
+ghost use Rattle.ground.specs.Limits.{maxHeight};
 ghost use Rattle.lines.specs.Lines.{lineEnd, nextStart, after};
 ghost use Rattle.subchars.specs.declared.Code.{Code};
-ghost use Rattle.index.specs.Index.{CharacterRoom};
-ghost use Rattle.index.specs.Latest.{smallCodes};
 ghost use Rattle.source.specs.Source.{Choice, Source, characterOf};
 ghost use Rattle.source.specs.Counting.{isMissing, one, howMany, countsOf, StandsIn};
-ghost use Rattle.source.specs.Held.{FontHeldBy, FontGives, Gives};
+ghost use Rattle.source.specs.Held.{FontGives, Gives};
 ghost use Rattle.source.specs.Steps.{Standing, RowPlaces, Stands, ChosenAs, PickedAs, asOwn};
 
 // What the bytes of a source are: a font, of which the lists hold so many characters; two fonts, each in its half of the lists; or a pack.
@@ -288,26 +284,5 @@ pub fn choose<'a>(
             let chosen = packs::choose_letter(code, font, height, starts, widths, found);
             in_first(chosen)
         }
-    }
-}
-
-// Reads a font into the lists, with the last place of each code below 256.
-pub fn read_font(
-    font: &[u8],
-    codes: &mut [i32],
-    starts: &mut [usize],
-    widths: &mut [usize],
-    places: &mut [usize],
-) -> FontAnswer
-    requires { ⌜ CharacterRoom maxCharacters (now codes) (now starts) (now widths) ⌝ }
-    requires { ⌜ length (now places) ≡ smallCodes ⌝ }
-    ensures { λ r. ⌜ FontHeldBy (now (font .entry)) r (now (codes .exit)) (now (starts .exit)) (now (widths .exit)) (now (places .exit)) ⌝ }
-{
-    match reader::read_lists(font, codes, starts, widths) {
-        FontAnswer::Read { header, count } => {
-            latest::find_latest(&codes[..count], places);
-            FontAnswer::Read { header, count }
-        }
-        FontAnswer::Refused(r) => FontAnswer::Refused(r),
     }
 }

@@ -16,7 +16,7 @@ ghost use Rattle.records.specs.Codes.{bitsOf};
 ghost use Rattle.records.specs.Versions.{headLength};
 ghost use Rattle.records.specs.Places.{placeIn};
 ghost use Rattle.heads.specs.Pack.{headIn, says, meaning};
-ghost use Rattle.letters.specs.Held.{orElse, LettersHeld};
+ghost use Rattle.letters.specs.Held.{orElsePlace, LettersHeld};
 ghost use Rattle.source.specs.Source.{Source};
 ghost use Rattle.source.specs.Counting.{StandsIn};
 ghost use Rattle.source.specs.Held.{PackGives};
@@ -58,7 +58,7 @@ fn show_letter(head: Head, pack: &[u8], place: Place, own: bool, found: &mut [us
 // The place of a code's own letter where it has one, else that of the letter with code 0.
 fn own_or_zeroth(head: Head, pack: &[u8], starts: &[usize], widths: &[usize], its: Place) -> Place
     requires { ⌜ LettersHeld head (now pack) (now starts) (now widths) ⌝ }
-    ensures { λ r. ⌜ ((records : List (List ℕ)) → meaning (now (pack .entry)) ≡ says head records → r ≡ orElse its (placeIn head (bitsOf (pos 0)) (headLength (head .version)) records)) ⌝ }
+    ensures { λ r. ⌜ ((records : List (List ℕ)) → meaning (now (pack .entry)) ≡ says head records → r ≡ orElsePlace its (placeIn head (bitsOf (pos 0)) (headLength (head .version)) records)) ⌝ }
 {
     if is_place(its) {
         return its;

@@ -15,16 +15,16 @@ use Rattle.ground.proofs.Tests.{and-none, and-left, and-right, not-true-false, 
 use Rattle.subchars.specs.declared.VerticalSmushing.the-variants.{Universal, Controlled}
 use Rattle.subchars.specs.declared.VerticalLayout.{VerticalLayout}
 use Rattle.subchars.specs.declared.VerticalLayout.the-variants.{FullHeight, Fitting, Smushing}
-use Rattle.subchars.specs.Pair.{legalHardblank}
+use Rattle.subchars.specs.Hardblank.{legalHardblank}
 use Rattle.vertical.specs.VerticalPair.{goodSet, goodVertical}
 use Rattle.vertical.proofs.GoodSets.{SumOfRules, good-sum, sum-good}
-use Rattle.join.specs.Join.{exactBlock}
+use Rattle.blocks.specs.Block.{exactBlock}
 use Rattle.join.specs.Shape.{goodBlock}
 use Rattle.join.proofs.GoodShape.{block-good, block-bad}
 use Rattle.stack.specs.declared.StackAnswer.the-variants.{Stacked}
-use Rattle.stack.specs.Stack.{Stack, stacked}
+use Rattle.columns.specs.Stack.{Stack, stacked}
 use Rattle.stack.specs.StackCall.{StackTold, stackTells, noStack, goodStack, fitTold, stackOf, stackSize, stackTold}
-use Rattle.stack.proofs.Demand.{overlap-smaller}
+use Rattle.columns.proofs.Demand.{overlap-smaller}
 
 -- 17 "as in the join, but upper height to 64, both widths to 1,000 and the five rules": upper height outside 1 to 64, lower height outside 1 to 32, a
 -- width over 1,000, a hardblank that 3 refuses, a controlled set that is no sum of one to five of the rules, a block not exactly height times width long.

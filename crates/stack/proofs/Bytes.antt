@@ -9,9 +9,9 @@ use lib.ListN.{getD}
 use Rattle.ground.specs.Area.{padded}
 use Rattle.ground.proofs.Areas.{padded-at}
 use Rattle.subchars.specs.declared.VerticalLayout.{VerticalLayout}
-use Rattle.join.specs.Join.{Block}
-use Rattle.join.proofs.Rows.{row-room, length-rows, rows-at}
-use Rattle.stack.specs.Stack.{Stack}
+use Rattle.blocks.specs.Block.{Block}
+use Rattle.blocks.proofs.Rows.{row-room, length-rows, rows-at}
+use Rattle.columns.specs.Stack.{Stack}
 use Rattle.stack.specs.StackCall.{stackOf, stackRows, stackTold, stackArea}
 
 module _ (layout : VerticalLayout) (hardblank n upperWidth : ℕ) (upper : List ℕ) (m lowerWidth : ℕ) (lower : List ℕ) (room : ℕ) where

@@ -10,9 +10,9 @@ use Rattle.ground.specs.Area.{values}
 use Rattle.ground.specs.Text.{byte}
 use Rattle.ground.proofs.Areas.{values-add, values-cong}
 use Rattle.lanes.specs.Blocks.{Cells}
-use Rattle.join.specs.Join.{rowsOf}
-use Rattle.join.proofs.Rows.{rows-cong}
-use Rattle.stack.specs.Placing.{withEnd}
+use Rattle.blocks.specs.Block.{rowsOf}
+use Rattle.blocks.proofs.Rows.{rows-cong}
+use Rattle.columns.specs.Placing.{withEnd}
 
 module _ (w : ℕ) (f : Cells) where
   pub end-inside : (r k : ℕ) → k < w → withEnd w f r k ≡ f r k

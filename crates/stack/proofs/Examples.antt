@@ -14,14 +14,15 @@ use Rattle.ground.specs.Refusals.{areaTooSmall, badShape, stackTooHigh}
 use Rattle.subchars.specs.declared.VerticalSmushing.the-variants.{Universal, Controlled}
 use Rattle.subchars.specs.declared.VerticalLayout.{VerticalLayout}
 use Rattle.subchars.specs.declared.VerticalLayout.the-variants.{FullHeight, Fitting, Smushing}
-use Rattle.subchars.specs.Pair.{legalHardblank, joinedIf, orElse, isSome, equalCharacter, underscore, classOf, hierarchy}
+use Rattle.subchars.specs.Hardblank.{legalHardblank}
+use Rattle.rules.specs.Rules.{joinedIf, orElse, isSome, equalCharacter, underscore, classOf, hierarchy}
 use Rattle.lanes.specs.Overlap.{laneFacing, facing, hasBlank, fitting, oneMore, smushing}
 use Rattle.lanes.specs.Joined.{joinedCells}
 use Rattle.vertical.specs.VerticalPair.{horizontalLine, twoBars, merge, merges, mergedByte, barred}
-use Rattle.join.specs.Join.{rowsOf}
+use Rattle.blocks.specs.Block.{rowsOf}
 use Rattle.join.specs.Shape.{goodBlock}
 use Rattle.stack.specs.declared.StackAnswer.the-variants.{Stacked}
-use Rattle.stack.specs.Stack.{upright, supersmushing, columnsOverlap, stackOverlap, stackedAt, stacked}
+use Rattle.columns.specs.Stack.{upright, supersmushing, columnsOverlap, stackOverlap, stackedAt, stacked}
 use Rattle.stack.specs.StackCall.{StackTold, stackTells, noStack, goodStack, fitTold, stackTold, stackArea}
 
 -- ------------------------------------------------------------------ what an example is

@@ -9,13 +9,13 @@ use lib.ListN.{length}
 use Rattle.ground.specs.Limits.{maxHeight, maxStackHeight, maxLineWidth}
 use Rattle.ground.proofs.Tests.{and-left, and-right}
 use Rattle.subchars.specs.declared.VerticalLayout.{VerticalLayout}
-use Rattle.subchars.specs.Pair.{legalHardblank}
+use Rattle.subchars.specs.Hardblank.{legalHardblank}
 use Rattle.join.specs.Shape.{goodBlock}
 use Rattle.join.proofs.GoodShape.{block-good}
-use Rattle.join.proofs.Rows.{row-room}
+use Rattle.blocks.proofs.Rows.{row-room}
 use Rattle.vertical.specs.VerticalPair.{goodVertical}
-use Rattle.stack.specs.declared.Placed.{Placed}
-use Rattle.stack.specs.Placing.{PlacedIn}
+use Rattle.columns.specs.declared.Placed.{Placed}
+use Rattle.columns.specs.Placing.{PlacedIn}
 use Rattle.stack.specs.StackCall.{goodStack}
 
 -- where a block lies whose rows lie one after another

@@ -1,9 +1,9 @@
 -- Blocks that are alike are stacked alike; and what is known of a stack that is put out is known of every stack like it.
 -- Assumes nothing.
-use mathlib.Core.Path.{_≡_, refl, sym, _∙_, ap, ap₂, subst}
+use mathlib.Core.Path.{_≡_, refl, _∙_, ap, ap₂, subst}
 use mathlib.Core.Bool.{cond}
 use mathlib.Core.List.{List}
-use Prim.Native.Nat.{ℕ, _+_, _-_, _*_, _≤_, max}
+use Prim.Native.Nat.{ℕ, _+_, _-_, _*_, max}
 use native.Mathlib.Omega.{arith}
 use native.Mathlib.Decide.{decLt}
 use lib.Dec.{ltb}
@@ -17,18 +17,17 @@ use Rattle.subchars.specs.declared.VerticalLayout.the-variants.{FullHeight, Fit
 use Rattle.lanes.specs.Blocks.{Cells, Agree}
 use Rattle.lanes.specs.Overlap.{furthest, fitting, smushing}
 use Rattle.lanes.proofs.Agreeing.{furthest-cong, fitting-cong, smushing-cong, joined-cong}
-use Rattle.join.specs.Join.{Block, exactBlock, rowsOf}
-use Rattle.join.specs.Writing.{Like}
-use Rattle.join.proofs.Rows.{rows-cong}
+use Rattle.blocks.specs.Block.{Block, exactBlock, rowsOf}
+use Rattle.blocks.specs.Writing.{Like}
+use Rattle.blocks.proofs.Rows.{rows-cong}
 use Rattle.vertical.specs.VerticalPair.{VerticalLine, setHas, merges, mergedByte, barred, otherRules}
-use Rattle.stack.specs.declared.Placed.{Placed}
 use Rattle.stack.specs.declared.StackAnswer.{StackAnswer}
 use Rattle.stack.specs.declared.StackAnswer.the-variants.{Stacked}
-use Rattle.stack.specs.Stack.{upright, supersmushing, columnsOverlap, wider, stackOverlap, stackedAt, Stack, stacked}
-use Rattle.stack.specs.Placing.{placedBlock, withEnd}
+use Rattle.columns.specs.Stack.{upright, supersmushing, columnsOverlap, wider, stackOverlap, stackedAt, Stack, stacked}
+use Rattle.columns.specs.Placing.{placedBlock, withEnd}
 use Rattle.stack.specs.StackCall.{StackTold, stackTells, noStackIf, fitTold, areaAfter, PutStack}
-use Rattle.stack.proofs.Columns.{upright-like}
-use Rattle.stack.proofs.Demand.{overlap-smaller, ruled}
+use Rattle.columns.proofs.Columns.{upright-like}
+use Rattle.columns.proofs.Demand.{overlap-smaller, ruled}
 
 -- columns that agree overlap alike
 module _ (w n m : ℕ) (a a′ b b′ : Cells) (upper : Agree w n a a′) (lower : Agree w m b b′) where

@@ -1,11 +1,10 @@
 -- What a stack answers and leaves, case by case of the code's tests.
 -- Assumes nothing.
-use mathlib.Core.Path.{_≡_, refl, sym, _∙_, ap, ap₂}
-use mathlib.Core.Bool.{Bool, true, false, cond}
-use mathlib.Core.List.{List, [], _++_}
+use mathlib.Core.Path.{_≡_, _∙_, ap, ap₂}
+use mathlib.Core.Bool.{Bool, true, false}
+use mathlib.Core.List.{List, _++_}
 use Prim.Native.Nat.{ℕ, _+_, _-_, _*_, _≤_, _<_}
 use native.Mathlib.Omega.{arith}
-use lib.Dec.{ltb}
 use lib.ListN.{length, take}
 use borrow.Author.Tests.{lt-ltb, le-ltb}
 use Rattle.ground.specs.Area.{zeros, padded}
@@ -13,13 +12,13 @@ use Rattle.ground.specs.Limits.{maxStackHeight}
 use Rattle.ground.specs.Refusals.{areaTooSmall, badShape, stackTooHigh}
 use Rattle.ground.proofs.Areas.{padded-of}
 use Rattle.subchars.specs.declared.VerticalLayout.{VerticalLayout}
-use Rattle.join.specs.Join.{Block, exactBlock, rowsOf}
-use Rattle.join.proofs.Rows.{length-rows}
+use Rattle.blocks.specs.Block.{Block, rowsOf}
+use Rattle.blocks.proofs.Rows.{length-rows}
 use Rattle.stack.specs.declared.StackAnswer.{StackAnswer}
 use Rattle.stack.specs.declared.StackAnswer.the-variants.{Stacked}
-use Rattle.stack.specs.Stack.{wider, stackOverlap, stackedAt, Stack, stacked}
-use Rattle.stack.specs.Placing.{withEnd}
-use Rattle.stack.specs.StackCall.{StackTold, stackTells, noStack, noStackIf, goodStack, fitTold, areaAfter, stackOf, stackSize, stackRows, stackTold, stackArea, StackGives, PutStack, RefusesStack}
+use Rattle.columns.specs.Stack.{wider, stackOverlap, stackedAt, Stack, stacked}
+use Rattle.columns.specs.Placing.{withEnd}
+use Rattle.stack.specs.StackCall.{StackTold, stackTells, noStack, goodStack, fitTold, areaAfter, stackOf, stackSize, stackRows, stackTold, stackArea, StackGives, PutStack, RefusesStack}
 use Rattle.stack.proofs.Ending.{not-ended}
 
 -- a refusal leaves zeros

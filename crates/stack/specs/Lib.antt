@@ -1,4 +1,2 @@
--- The meaning of a stack of two blocks, and of the call.
-pub mod Stack
-pub mod Placing
+-- The meaning of the call `stack`.
 pub mod StackCall

@@ -10,14 +10,14 @@ use Rattle.ground.specs.Area.{zeros, padded}
 use Rattle.ground.specs.Limits.{maxHeight, maxStackHeight, maxLineWidth}
 use Rattle.ground.specs.Refusals.{areaTooSmall, badShape, stackTooHigh}
 use Rattle.subchars.specs.declared.VerticalLayout.{VerticalLayout}
-use Rattle.subchars.specs.Pair.{legalHardblank}
+use Rattle.subchars.specs.Hardblank.{legalHardblank}
 use Rattle.vertical.specs.VerticalPair.{goodVertical}
-use Rattle.join.specs.Join.{exactBlock, rowsOf}
+use Rattle.blocks.specs.Block.{exactBlock, rowsOf}
 use Rattle.join.specs.Shape.{goodBlock}
 use Rattle.stack.specs.declared.StackAnswer.{StackAnswer}
 use Rattle.stack.specs.declared.StackAnswer.the-variants.{Stacked, Refused}
-use Rattle.stack.specs.Stack.{Stack, stacked}
-use Rattle.stack.specs.Placing.{withEnd}
+use Rattle.columns.specs.Stack.{Stack, stacked}
+use Rattle.columns.specs.Placing.{withEnd}
 
 -- What an answer tells. "A refusal answers its number and place (0 where none is named); other numbers are 0."
 pub record StackTold : Type 0 where

@@ -1,15 +1,8 @@
-// Two blocks one above the other: their overlap by column, and the rows of both. Hardblanks are taken for blanks, and the narrower block has blanks
-// on its right.
-pub mod overlaps;
+// The whole stack of two blocks, one above the other, at the overlap of their columns: the rows of both, and the refusals.
 pub mod stacking;
-pub mod writing;
+mod writing;
 
 use ground::refusals::Refusal;
-use subchars::SubCharacter;
-ghost use mathlib.Core.Path.{_≡_};
-ghost use Prim.Native.Nat.{_<_};
-ghost use Rattle.stack.specs.Stack.{upright};
-ghost use Rattle.stack.specs.Placing.{placedBlock, PlacedIn};
 
 // What a stack answers: the overlap, the height and the width of the result, or a refusal.
 pub enum StackAnswer {
@@ -19,24 +12,4 @@ pub enum StackAnswer {
         width: usize,
     },
     Refused(Refusal),
-}
-
-// Where a block lies in a slice: row r and column c at r * stride + base + c.
-pub struct Placed {
-    pub base: usize,
-    pub stride: usize,
-    pub width: usize,
-    pub height: usize,
-}
-
-// A sub-character of a block: the hardblank as a blank, and blanks on the right of the block.
-fn cell(s: &[u8], p: Placed, hardblank: SubCharacter, r: usize, c: usize) -> SubCharacter
-    requires { ⌜ PlacedIn (now s) p ⌝ }
-    requires { ⌜ r < p .height ⌝ }
-    ensures { λ x. ⌜ x .0 ≡ upright (hardblank .0) (placedBlock (now (s .entry)) p) c r ⌝ }
-{
-    if c < p.width {
-        return subchars::blanked(SubCharacter(s[r * p.stride + p.base + c]), hardblank);
-    }
-    SubCharacter(b' ')
 }

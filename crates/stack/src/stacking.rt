@@ -1,8 +1,7 @@
 // A stack as it is asked for: the shape is tested, the overlap found, and the lent area filled. Refusals 17, 18, 9.
-use crate::Placed;
 use crate::StackAnswer;
-use crate::overlaps;
 use crate::writing;
+use columns::Placed;
 use ground::limits;
 use ground::refusals;
 use ground::refusals::Refusal;
@@ -12,8 +11,8 @@ use subchars::VerticalLayout;
 ghost use mathlib.Core.Path.{_≡_};
 ghost use Prim.Native.Nat.{_≤_, max};
 ghost use lib.ListN.{length};
-ghost use Rattle.stack.specs.Stack.{stacked};
-ghost use Rattle.stack.specs.Placing.{placedBlock, PlacedIn};
+ghost use Rattle.columns.specs.Stack.{stacked};
+ghost use Rattle.columns.specs.Placing.{placedBlock, PlacedIn};
 ghost use Rattle.stack.specs.StackCall.{goodStack, StackGives, PutStack, RefusesStack};
 
 // A refusal, with zeros all through the area.
@@ -46,7 +45,7 @@ pub fn put_stack(
     requires { ⌜ end ≤ 1 ⌝ }
     ensures { λ r. ⌜ PutStack (stacked layout (hardblank .0) (u .height) (placedBlock (now (upper .entry)) u) (l .height) (placedBlock (now (lower .entry)) l)) end (length (now (out .entry))) r (now (out .exit)) ⌝ }
 {
-    let o = overlaps::overlap_of(layout, hardblank, upper, u, lower, l);
+    let o = columns::overlaps::overlap_of(layout, hardblank, upper, u, lower, l);
     let h = u.height + l.height - o;
     if limits::MAX_STACK_HEIGHT < h {
         return refuse(refusals::STACK_TOO_HIGH, out);

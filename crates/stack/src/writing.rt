@@ -1,18 +1,17 @@
 // The rows of a stack, written one after another, each with its end behind it.
-use crate::Placed;
-use crate::cell;
+use columns::Placed;
 use subchars::SubCharacter;
 use subchars::VerticalLayout;
 ghost use mathlib.Core.Path.{_≡_};
 ghost use mathlib.Core.List.{_++_};
-ghost use Prim.Native.Nat.{ℕ, _+_, _-_, _*_, _<_, _≤_, max};
+ghost use Prim.Native.Nat.{ℕ, _+_, _-_, _*_, _<_, _≤_};
 ghost use lib.ListN.{length, take};
 ghost use Rattle.ground.specs.Area.{values};
 ghost use Rattle.ground.specs.Limits.{maxLineWidth};
 ghost use Rattle.ground.specs.Text.{byte};
-ghost use Rattle.join.specs.Join.{rowsOf};
-ghost use Rattle.stack.specs.Stack.{stackedAt};
-ghost use Rattle.stack.specs.Placing.{placedBlock, PlacedIn, withEnd};
+ghost use Rattle.blocks.specs.Block.{rowsOf};
+ghost use Rattle.columns.specs.Stack.{stackedAt};
+ghost use Rattle.columns.specs.Placing.{placedBlock, PlacedIn, withEnd};
 
 // A sub-character of the stack at overlap o: the upper block's, what a pair becomes, or the lower block's.
 fn stacked_cell(
@@ -33,11 +32,11 @@ fn stacked_cell(
 {
     let cut = u.height - o;
     if r < cut {
-        return cell(upper, u, hardblank, r, c);
+        return columns::cell(upper, u, hardblank, r, c);
     }
-    let y = cell(lower, l, hardblank, r - cut, c);
+    let y = columns::cell(lower, l, hardblank, r - cut, c);
     if r < u.height {
-        let x = cell(upper, u, hardblank, r, c);
+        let x = columns::cell(upper, u, hardblank, r, c);
         return vertical::merged_byte(layout, x, y);
     }
     y

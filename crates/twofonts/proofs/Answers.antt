@@ -12,7 +12,7 @@ use borrow.Author.Tests.{ltb-true, ltb-false}
 use Rattle.ground.specs.Limits.{maxLineWidth, maxText, minScratch}
 use Rattle.ground.specs.Refusals.{refusal, tooManyCharacters, areaTooSmall, controlFileTooLong, tooManyCommands, textTooLong, lineTooWide, fontsDiffer}
 use Rattle.ground.specs.declared.refusals.Refusal.{Refusal}
-use Rattle.join.specs.Join.{Block}
+use Rattle.blocks.specs.Block.{Block}
 use Rattle.header.specs.declared.Header.{Header}
 use Rattle.chars.specs.declared.Entry.{Entry}
 use Rattle.font.specs.Font.{FontReading, says, refuses, reading}

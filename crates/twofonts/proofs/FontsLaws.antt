@@ -1,7 +1,7 @@
 -- Two fonts that were read: what the lists hold of them, and what drawing and a row request by them come to, case by case.
 -- Assumes nothing.
-use mathlib.Core.Path.{_≡_, refl, sym, ap, _∙_, subst}
-use mathlib.Core.Bool.{Bool, true, false, cond, _&&_}
+use mathlib.Core.Path.{_≡_, refl, ap, _∙_, subst}
+use mathlib.Core.Bool.{Bool, true, false, cond}
 use mathlib.Core.List.{List, _++_}
 use Prim.Native.Nat.{ℕ, _-_, _≤_, _<_}
 use lib.Dec.{eqb, ltb}
@@ -16,20 +16,20 @@ use Rattle.ground.proofs.Tests.{and-left}
 use Rattle.subchars.specs.declared.Code.{Code}
 use Rattle.header.specs.declared.Header.{Header}
 use Rattle.chars.specs.declared.Entry.{Entry}
-use Rattle.font.specs.Font.{FontReading, says, refuses, reading}
+use Rattle.font.specs.Font.{FontReading, reading}
 use Rattle.index.specs.Index.{CharacterRoom}
 use Rattle.index.specs.Latest.{smallCodes}
 use Rattle.reader.specs.declared.FontAnswer.{FontAnswer}
 use Rattle.reader.specs.declared.FontAnswer.the-variants as one
 use Rattle.flc.specs.Control as flc
 use Rattle.source.specs.declared.Origin.the-variants.{Two}
-use Rattle.source.specs.TwoFonts.{lookedUpInTwo}
+use Rattle.fontlists.specs.TwoFonts.{lookedUpInTwo}
 use Rattle.source.specs.Source.{twoSource}
-use Rattle.source.specs.Held.{FontHeldBy, TwoHeld, TwoGives, Gives}
-use Rattle.drawing.specs.Drawing.{modeOf, Lined, unlined, linedFrom}
+use Rattle.source.specs.Held.{Gives}
+use Rattle.fontlists.specs.Held.{FontHeldBy}
+use Rattle.drawing.specs.Drawing.{modeOf, unlined, linedFrom}
 use Rattle.twofonts.specs.declared.BothRead.{BothRead}
 use Rattle.twofonts.specs.declared.BothRead.the-variants.{Read, Refused}
-use Rattle.twofonts.specs.declared.RequestedOfTwo.{RequestedOfTwo}
 use Rattle.twofonts.specs.declared.RequestedOfTwo.the-variants as row
 use Rattle.twofonts.specs.Fonts.{Fonts, fonts, unfit, alike, fontsBy, fontsOf}
 use Rattle.twofonts.specs.RowOfTwo.{noRow, rowIn, rowBy, rowOfTwo}

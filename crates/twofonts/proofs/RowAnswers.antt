@@ -1,6 +1,6 @@
 -- Each answer of a row request of two fonts is given exactly when document 02, Q-7, says so.
 -- Assumes nothing.
-use mathlib.Core.Path.{_≡_, refl, sym, ap, _∙_, subst}
+use mathlib.Core.Path.{_≡_, refl, sym, subst}
 use mathlib.Core.Bool.{Bool, true, false}
 use mathlib.Core.List.{List}
 use mathlib.Core.Logic.{_↔_, _⊎_, inl, inr, ⊎-elim}
@@ -10,16 +10,15 @@ use lib.Dec.{ltb}
 use borrow.Author.Tests.{ltb-true, ltb-false}
 use Rattle.ground.specs.Refusals.{refusal, tooManyCharacters, badShape, fontsDiffer}
 use Rattle.ground.specs.declared.refusals.Refusal.{Refusal}
-use Rattle.ground.proofs.Tests.{clash}
 use Rattle.subchars.specs.declared.Code.{Code}
 use Rattle.header.specs.declared.Header.{Header}
 use Rattle.chars.specs.declared.Entry.{Entry}
 use Rattle.font.specs.Font.{says, refuses, reading}
 use Rattle.font.proofs.ReadingLaws.{font-refusal}
-use Rattle.source.specs.declared.two.Which.{Which}
-use Rattle.source.specs.declared.two.LookedUpInTwo.{LookedUpInTwo}
-use Rattle.source.specs.declared.two.LookedUpInTwo.the-variants.{Found, StoodIn, Nothing}
-use Rattle.source.specs.TwoFonts.{lookedUpInTwo}
+use Rattle.fontlists.specs.declared.two.Which.{Which}
+use Rattle.fontlists.specs.declared.two.LookedUpInTwo.{LookedUpInTwo}
+use Rattle.fontlists.specs.declared.two.LookedUpInTwo.the-variants.{Found, StoodIn, Nothing}
+use Rattle.fontlists.specs.TwoFonts.{lookedUpInTwo}
 use Rattle.twofonts.specs.declared.RequestedOfTwo.{RequestedOfTwo}
 use Rattle.twofonts.specs.declared.RequestedOfTwo.the-variants.{Row, Refused}
 use Rattle.twofonts.specs.Fonts.{alike}

@@ -8,7 +8,7 @@ use Prim.Native.Nat.{ℕ, _+_, _≤_, _<_}
 use native.Mathlib.Omega.{arith}
 use lib.Dec.{eqb, ltb}
 use lib.ListN.{length}
-use borrow.Author.Tests.{ltb-true, ltb-false, lt-ltb, eqb-true}
+use borrow.Author.Tests.{ltb-true, lt-ltb, eqb-true}
 use Rattle.ground.specs.Refusals.{refusal, fontsDiffer}
 use Rattle.ground.proofs.Tests.{clash, and-left}
 use Rattle.subchars.specs.declared.Code.{Code}
@@ -17,14 +17,13 @@ use Rattle.header.specs.declared.Header.{Header}
 use Rattle.chars.specs.declared.Entry.{Entry}
 use Rattle.font.specs.Font.{FontReading, says, refuses, reading}
 use Rattle.request.proofs.RowLaws.{row-stands}
-use Rattle.source.specs.declared.two.Which.{Which}
-use Rattle.source.specs.declared.two.Which.the-variants.{First, Second}
-use Rattle.source.specs.declared.two.LookedUpInTwo.{LookedUpInTwo}
-use Rattle.source.specs.declared.two.LookedUpInTwo.the-variants.{Found, StoodIn, Nothing}
-use Rattle.source.specs.TwoFonts.{lookedUpInTwo, bytesIn}
+use Rattle.fontlists.specs.declared.two.Which.{Which}
+use Rattle.fontlists.specs.declared.two.Which.the-variants.{First, Second}
+use Rattle.fontlists.specs.declared.two.LookedUpInTwo.{LookedUpInTwo}
+use Rattle.fontlists.specs.declared.two.LookedUpInTwo.the-variants.{Found, StoodIn, Nothing}
+use Rattle.fontlists.specs.TwoFonts.{lookedUpInTwo, bytesIn}
 use Rattle.source.proofs.TwoLaws.{charactersIn, Among, AmongTwo, among-two}
-use Rattle.twofonts.specs.declared.RequestedOfTwo.{RequestedOfTwo}
-use Rattle.twofonts.specs.declared.RequestedOfTwo.the-variants.{Row, Refused}
+use Rattle.twofonts.specs.declared.RequestedOfTwo.the-variants.{Row}
 use Rattle.twofonts.specs.Fonts.{Fonts, fonts, unfit, alike, fontsBy, fontsOf}
 use Rattle.twofonts.specs.RowOfTwo.{noRow, rowIn, rowBy, rowOfTwo}
 

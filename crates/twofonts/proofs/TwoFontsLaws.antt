@@ -14,7 +14,7 @@ use Rattle.ground.specs.Refusals.{refusal, areaTooSmall, textTooLong, fontsDiff
 use Rattle.ground.proofs.Tests.{clash, and-both, and-none, and-left-false, and-right-false}
 use Rattle.subchars.specs.declared.Code.{Code}
 use Rattle.subchars.specs.declared.Mode.{Mode}
-use Rattle.join.specs.Join.{Block}
+use Rattle.blocks.specs.Block.{Block}
 use Rattle.figure.specs.Line.{empty, lineFrom}
 use Rattle.header.specs.declared.Header.{Header}
 use Rattle.lines.specs.Lines.{after}
@@ -30,13 +30,13 @@ use Rattle.request.specs.declared.Requested.the-variants as one-row
 use Rattle.request.specs.Request.{inFont, sought, badRequest, rowOfSought, rowRequest}
 use Rattle.flc.specs.declared.Command.{Command}
 use Rattle.flc.specs.Control as flc
-use Rattle.source.specs.declared.two.Which.the-variants.{First, Second}
-use Rattle.source.specs.declared.two.LookedUpInTwo.the-variants as two
-use Rattle.source.specs.TwoFonts.{firstTry, lookedUpInTwo}
+use Rattle.fontlists.specs.declared.two.Which.the-variants.{First, Second}
+use Rattle.fontlists.specs.declared.two.LookedUpInTwo.the-variants as two
+use Rattle.fontlists.specs.TwoFonts.{firstTry, lookedUpInTwo}
 use Rattle.source.specs.Source.{Choice, Source, choiceOf, fontSource, choiceOfTwo, twoSource}
 use Rattle.source.specs.Counting.{one, isStoodIn, isNothing, howMany, countsOf}
-use Rattle.source.proofs.TwoLaws.{either-looked-up}
-use Rattle.source.specs.Steps.{eitherOf}
+use Rattle.fontlists.proofs.TwoLaws.{either-looked-up}
+use Rattle.fontlists.specs.Steps.{eitherOf}
 use Rattle.drawing.specs.Drawing.{textCodes, withChoice, charactersOf, lineOf, modeOf, Lined, unlined, linedText, linedFrom, linedBy, linedOf, drawLined, draws, refuses, linedRead}
 use Rattle.twofonts.specs.Fonts.{Fonts, fonts, unfit, alike, fontsBy, fontsOf}
 use Rattle.twofonts.specs.declared.RequestedOfTwo.{RequestedOfTwo}

@@ -9,7 +9,7 @@ use Rattle.ground.specs.Refusals.{refusal, fontsDiffer}
 use Rattle.header.specs.declared.Header.{Header}
 use Rattle.reader.specs.declared.FontAnswer.{FontAnswer}
 use Rattle.reader.specs.declared.FontAnswer.the-variants as one
-use Rattle.source.specs.Held.{TwoHeld}
+use Rattle.fontlists.specs.Held.{TwoHeld}
 use Rattle.twofonts.specs.declared.BothRead.{BothRead}
 use Rattle.twofonts.specs.declared.BothRead.the-variants.{Read, Refused}
 use Rattle.twofonts.specs.Fonts.{alike, unfit, fontsOf}

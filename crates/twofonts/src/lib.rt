@@ -1,6 +1,9 @@
 // Two fonts, the second behind the first: a row request of both, and a line of text drawn by both.
 use chars::Entry;
 use drawing::DrawAnswer;
+use fontlists::two;
+use fontlists::two::LookedUpInTwo;
+use fontlists::two::Which;
 use ground::limits;
 use ground::refusals;
 use ground::refusals::Refusal;
@@ -9,22 +12,16 @@ use index::latest;
 use lines::Cursor;
 use reader::FontAnswer;
 use source::Origin;
-use source::two;
-use source::two::LookedUpInTwo;
-use source::two::Which;
 use subchars::Code;
 ghost use mathlib.Core.Path.{_≡_};
-ghost use mathlib.Core.Bool.{_&&_};
-ghost use mathlib.Core.List.{List};
-ghost use Prim.Native.Nat.{ℕ, _+_, _≤_};
-ghost use lib.Dec.{eqb};
+ghost use Prim.Native.Nat.{_+_, _≤_};
 ghost use lib.ListN.{length};
 ghost use Rattle.ground.specs.Area.{zeros};
 ghost use Rattle.ground.specs.Limits.{minScratch, maxCharacters};
 ghost use Rattle.index.specs.Index.{CharacterRoom};
 ghost use Rattle.index.specs.Latest.{smallCodes};
 ghost use Rattle.lines.specs.Lines.{after};
-ghost use Rattle.source.specs.TwoFonts.{bytesIn};
+ghost use Rattle.fontlists.specs.TwoFonts.{bytesIn};
 ghost use Rattle.drawing.specs.Drawing.{PutOut};
 ghost use Rattle.twofonts.specs.declared.RequestedOfTwo.the-variants.{Row};
 ghost use Rattle.twofonts.specs.Fonts.{alike};
@@ -102,14 +99,14 @@ fn read_both(
 {
     let half = limits::MAX_CHARACTERS;
     let small = latest::SMALL_CODES;
-    let a = source::read_font(
+    let a = fontlists::read_font(
         first,
         &mut codes[..half],
         &mut starts[..half],
         &mut widths[..half],
         &mut places[..small],
     );
-    let b = source::read_font(
+    let b = fontlists::read_font(
         second,
         &mut codes[half..],
         &mut starts[half..],

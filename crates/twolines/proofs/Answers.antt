@@ -13,7 +13,7 @@ use Rattle.ground.specs.Limits.{maxFontLength, maxHeight, maxLineWidth, maxStac
 use Rattle.ground.specs.Refusals.{refusal, fontTooLong, areaTooSmall, textTooLong, lineTooWide, stackTooHigh}
 use Rattle.ground.specs.declared.refusals.Refusal.{Refusal}
 use Rattle.ground.proofs.Tests.{or-left, or-right, below-or-not}
-use Rattle.join.specs.Join.{Block}
+use Rattle.blocks.specs.Block.{Block}
 use Rattle.header.specs.declared.Header.{Header}
 use Rattle.header.proofs.ParameterLaws.{High}
 use Rattle.chars.specs.declared.Entry.{Entry}
@@ -23,9 +23,9 @@ use Rattle.flc.specs.declared.Command.{Command}
 use Rattle.flc.specs.Control as flc
 use Rattle.flc.proofs.RefusalLaws.{control-refusal}
 use Rattle.stack.specs.declared.StackAnswer.the-variants.{Stacked, Refused}
-use Rattle.stack.specs.Stack.{Stack, stacked}
+use Rattle.columns.specs.Stack.{Stack, stacked}
 use Rattle.stack.specs.StackCall.{StackTold, stackTells, noStack, fitTold}
-use Rattle.stack.proofs.Demand.{overlap-smaller}
+use Rattle.columns.proofs.Demand.{overlap-smaller}
 use Rattle.source.specs.declared.Counts.{Counts}
 use Rattle.source.specs.Counting.{noCounts}
 use Rattle.drawing.specs.Drawing.{modeOf, fontLine, fontCounts, linedBy, linedOf, unlined}

@@ -8,11 +8,11 @@ use lib.ListN.{getD}
 use Rattle.ground.specs.Area.{padded}
 use Rattle.ground.specs.Text.{byte}
 use Rattle.ground.proofs.Areas.{padded-at}
-use Rattle.subchars.specs.Pair.{blank}
+use Rattle.subchars.specs.Hardblank.{blank}
 use Rattle.lanes.proofs.Blanking.{nothing-hard}
-use Rattle.join.proofs.Rows.{row-room}
-use Rattle.figure.proofs.Showing.{shown-byte, shown-lf, length-shown}
-use Rattle.stack.specs.Stack.{Stack}
+use Rattle.blocks.proofs.Rows.{row-room}
+use Rattle.showing.proofs.Showing.{shown-byte, shown-lf, length-shown}
+use Rattle.columns.specs.Stack.{Stack}
 use Rattle.stack.specs.StackCall.{StackTold, areaAfter}
 use Rattle.twolines.specs.TwoLines.{TwoLines, drawLines, linesSize, linesShown, linesTold, linesBytes, linesOutput}
 use Rattle.twolines.proofs.Answers.{FilesRead, LinesFit, stackBy, is-stacked, gives, stacks}

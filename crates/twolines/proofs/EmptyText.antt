@@ -8,14 +8,14 @@ use lib.ListN.{getD}
 use borrow.Author.Tests.{lt-ltb, le-ltb}
 use Rattle.subchars.specs.declared.VerticalLayout.{VerticalLayout}
 use Rattle.subchars.specs.declared.VerticalLayout.the-variants.{FullHeight}
-use Rattle.subchars.specs.Pair.{blank, blanked}
-use Rattle.join.specs.Join.{Block}
+use Rattle.subchars.specs.Hardblank.{blank, blanked}
+use Rattle.blocks.specs.Block.{Block}
 use Rattle.figure.specs.Line.{empty, lineFrom}
 use Rattle.header.specs.declared.Header.{Header}
 use Rattle.chars.specs.declared.Entry.{Entry}
 use Rattle.flc.specs.declared.Command.{Command}
-use Rattle.stack.specs.Stack.{Stack, upright, stackOverlap, stacked}
-use Rattle.stack.proofs.Demand.{full-height-nothing, stack-cells, stack-width}
+use Rattle.columns.specs.Stack.{Stack, upright, stackOverlap, stacked}
+use Rattle.columns.proofs.Demand.{full-height-nothing, stack-cells, stack-width}
 use Rattle.drawing.specs.Drawing.{codesOf, mappedCodes, charactersOf, lineOf, fontLine}
 use Rattle.twolines.specs.TwoLines.{verticalOf, drawLines, linesSize, linesOutput}
 use Rattle.twolines.proofs.Answers.{FilesRead, LinesFit, lineBy, stackBy}

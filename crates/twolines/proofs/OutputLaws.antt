@@ -3,7 +3,7 @@
 use mathlib.Core.Path.{_≡_, refl, sym, _∙_, ap, ap₂, subst}
 use mathlib.Core.Bool.{Bool, true, false, cond, _||_}
 use mathlib.Core.List.{List, _++_}
-use Prim.Native.Nat.{ℕ, _+_, _-_, _*_, _≤_, _<_}
+use Prim.Native.Nat.{ℕ, _+_, _-_, _≤_, _<_}
 use native.Mathlib.Omega.{arith}
 use native.Mathlib.Nat.{mul-le-mul-right}
 use lib.Dec.{ltb}
@@ -19,17 +19,17 @@ use Rattle.subchars.specs.declared.Direction.{Direction}
 use Rattle.subchars.specs.declared.Direction.the-variants.{LeftToRight, RightToLeft}
 use Rattle.subchars.specs.declared.Mode.{Mode}
 use Rattle.subchars.specs.declared.VerticalLayout.{VerticalLayout}
-use Rattle.subchars.specs.Pair.{blank, blanked}
+use Rattle.subchars.specs.Hardblank.{blank}
 use Rattle.lanes.proofs.Blanking.{nothing-hard}
-use Rattle.join.specs.Join.{Block, rowsOf}
-use Rattle.join.proofs.Rows.{rows-cong, row-room}
-use Rattle.figure.specs.Line.{shownAt, shown}
-use Rattle.figure.specs.Scratch.{lineStart}
-use Rattle.stack.specs.declared.Placed.{Placed}
+use Rattle.blocks.specs.Block.{Block, rowsOf}
+use Rattle.blocks.proofs.Rows.{rows-cong, row-room}
+use Rattle.showing.specs.Output.{shownAt, shown}
+use Rattle.showing.specs.Scratch.{lineStart}
+use Rattle.columns.specs.declared.Placed.{Placed}
 use Rattle.stack.specs.declared.StackAnswer.{StackAnswer}
 use Rattle.stack.specs.declared.StackAnswer.the-variants as stack-is
-use Rattle.stack.specs.Stack.{Stack, stacked}
-use Rattle.stack.specs.Placing.{placedBlock, PlacedIn, withEnd}
+use Rattle.columns.specs.Stack.{Stack, stacked}
+use Rattle.columns.specs.Placing.{placedBlock, PlacedIn, withEnd}
 use Rattle.stack.specs.StackCall.{StackTold, stackTells, fitTold, areaAfter, PutStack}
 use Rattle.stack.proofs.Likeness.{stacked-like, put-like}
 use Rattle.source.specs.declared.Counts.{Counts}

@@ -1,6 +1,6 @@
 -- The rows of the refusal table for two lines: what each answer is given for, spelled out.
 -- Assumes nothing.
-use mathlib.Core.Path.{_≡_, refl, sym, ap, _∙_, subst}
+use mathlib.Core.Path.{_≡_, refl, sym, _∙_, subst}
 use mathlib.Core.Bool.{true, false, true≢false, false≢true}
 use mathlib.Core.List.{List}
 use mathlib.Core.Logic.{_↔_, _⊎_, inl, inr, ⊎-elim}
@@ -10,7 +10,7 @@ use lib.ListN.{length}
 use Rattle.ground.specs.Limits.{maxLineWidth, maxText, minStackedScratch}
 use Rattle.ground.specs.Refusals.{refusal, tooManyCharacters, areaTooSmall, controlFileTooLong, tooManyCommands, textTooLong, lineTooWide}
 use Rattle.ground.specs.declared.refusals.Refusal.{Refusal}
-use Rattle.join.specs.Join.{Block}
+use Rattle.blocks.specs.Block.{Block}
 use Rattle.header.specs.declared.Header.{Header}
 use Rattle.chars.specs.declared.Entry.{Entry}
 use Rattle.font.specs.Font as font
@@ -19,7 +19,7 @@ use Rattle.flc.specs.declared.Command.{Command}
 use Rattle.flc.specs.Control as flc
 use Rattle.flc.proofs.RefusalLaws.{control-refusal}
 use Rattle.stack.specs.declared.StackAnswer.the-variants.{Stacked, Refused}
-use Rattle.stack.specs.Stack.{Stack, stacked}
+use Rattle.columns.specs.Stack.{Stack, stacked}
 use Rattle.stack.specs.StackCall.{StackTold, stackTells}
 use Rattle.drawing.specs.Drawing.{fontLine}
 use Rattle.twolines.specs.TwoLines.{verticalOf, drawLines, linesSize, linesTold}

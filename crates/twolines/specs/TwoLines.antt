@@ -11,14 +11,14 @@ use Rattle.ground.specs.declared.refusals.Refusal.{Refusal}
 use Rattle.subchars.specs.declared.VerticalLayout.{VerticalLayout}
 use Rattle.subchars.specs.declared.VerticalLayout.the-variants.{FullHeight}
 use Rattle.subchars.specs.Layouts.{fullVertical}
-use Rattle.subchars.specs.Pair.{blank}
+use Rattle.subchars.specs.Hardblank.{blank}
 use Rattle.header.specs.declared.Given.{Given}
 use Rattle.header.specs.declared.Given.the-variants.{Absent, Of}
 use Rattle.font.specs.Font as font
-use Rattle.figure.specs.Line.{shown}
+use Rattle.showing.specs.Output.{shown}
 use Rattle.stack.specs.declared.StackAnswer.{StackAnswer}
 use Rattle.stack.specs.declared.StackAnswer.the-variants.{Stacked, Refused}
-use Rattle.stack.specs.Stack.{Stack, stacked}
+use Rattle.columns.specs.Stack.{Stack, stacked}
 use Rattle.stack.specs.StackCall.{StackTold, stackTells, fitTold, areaAfter}
 use Rattle.source.specs.declared.Counts.{Counts}
 use Rattle.source.specs.Counting.{noCounts}

@@ -1,15 +1,13 @@
-// Two lines of text drawn by one font, one above the other.
+// The lines of two texts, drawn by one font, one above the other.
+use columns::Placed;
 use drawing::DrawnText;
-use drawing::Files;
 use ground::limits;
 use ground::refusals;
 use ground::refusals::Refusal;
 use header::Given;
 use header::Header;
-use index::latest;
 use source::Counts;
 use source::Origin;
-use stack::Placed;
 use stack::StackAnswer;
 use stack::stacking;
 use subchars::Direction;
@@ -18,19 +16,18 @@ use subchars::VerticalLayout;
 ghost use mathlib.Core.Path.{_≡_};
 ghost use mathlib.Core.List.{List};
 ghost use Prim.Native.Nat.{ℕ, _≤_};
-ghost use lib.ListN.{length, take, drop};
-ghost use Rattle.ground.specs.Area.{zeros};
-ghost use Rattle.ground.specs.Limits.{maxLineWidth, maxHeight, maxText, minScratch, minStackedScratch};
-ghost use Rattle.figure.specs.Scratch.{lineStart};
-ghost use Rattle.flc.specs.Passing.{ControlHeld};
+ghost use lib.ListN.{length};
+ghost use Rattle.ground.specs.Limits.{maxLineWidth, maxHeight, maxText, minStackedScratch};
+ghost use Rattle.showing.specs.Scratch.{lineStart};
+ghost use Rattle.mapping.specs.Passing.{ControlHeld};
 ghost use Rattle.subchars.specs.declared.Code.{Code};
 ghost use Rattle.subchars.specs.declared.Mode.{Mode};
 ghost use Rattle.source.specs.Source.{Source};
-ghost use Rattle.source.specs.Held.{FontHeld, Gives};
+ghost use Rattle.source.specs.Held.{Gives};
+ghost use Rattle.fontlists.specs.Held.{FontHeld};
 ghost use Rattle.drawing.specs.Drawing.{textCodes, linedText};
-ghost use Rattle.drawing.specs.Held.{FilesHeld};
 ghost use Rattle.twolines.specs.Steps.{BothDrawn, BothCounted, countsBeside};
-ghost use Rattle.twolines.specs.TwoLines.{verticalOf, TwoLines, closedUp, linesOf, drawLines, stackPart, countsPart, LinesOut};
+ghost use Rattle.twolines.specs.TwoLines.{verticalOf, TwoLines, closedUp, linesOf, stackPart, countsPart, LinesOut};
 
 // What drawing two texts answers: at which overlap the lines are closed up, how high and wide both are, and the counts over both texts; or a refusal.
 pub enum LinesAnswer {
@@ -60,7 +57,7 @@ fn vertical_of(given: Given) -> VerticalLayout
 }
 
 // A refusal, with zeros all through the output.
-fn refuse(number: usize, place: usize, out: &mut [u8]) -> LinesAnswer
+pub fn refuse(number: usize, place: usize, out: &mut [u8]) -> LinesAnswer
     ensures { λ r. ⌜ LinesOut (TwoLines.noLines (record { number = number; place = place })) (length (now (out .entry))) r (now (out .exit)) ⌝ }
 {
     ground::zero_from(out, 0);
@@ -73,7 +70,7 @@ fn line_place(direction: Direction, w: usize, height: usize) -> Placed
     ensures { λ p. ⌜ p ≡ record { base = lineStart direction w; stride = maxLineWidth; width = w; height = height } ⌝ }
 {
     Placed {
-        base: figure::line_start(direction, w),
+        base: showing::line_start(direction, w),
         stride: limits::MAX_LINE_WIDTH,
         width: w,
         height,
@@ -233,7 +230,7 @@ fn count_both(
 }
 
 // Draws two texts by a font and a control file that were read: 15 and 16 of either, then 9.
-fn draw_texts(
+pub fn draw_texts(
     out: &mut [u8],
     scratch: &mut [u8],
     upper: &[u8],
@@ -286,137 +283,4 @@ fn draw_texts(
     );
     let counts = count_both(drawn, font, height, origin, codes, starts, widths, places);
     put_lines(out, scratch, drawn, counts, mode, vertical_of(full), height)
-}
-
-// Draws two texts by what reading the files gave; the lists hold it.
-fn draw_files(
-    out: &mut [u8],
-    scratch: &mut [u8],
-    upper: &[u8],
-    lower: &[u8],
-    font: &[u8],
-    files: Files,
-    codes: &[i32],
-    starts: &[usize],
-    widths: &[usize],
-    places: &[usize],
-    stages: &[usize],
-    firsts: &[i32],
-    lasts: &[i32],
-    news: &[i32],
-) -> LinesAnswer
-    requires { ⌜ ((control : List ℕ) × FilesHeld (now font) control files (now codes) (now starts) (now widths) (now places) (now stages) (now firsts) (now lasts) (now news)) ⌝ }
-    requires { ⌜ minStackedScratch ≤ length (now scratch) ⌝ }
-    ensures { λ r. ⌜ ((control : List ℕ) → FilesHeld (now (font .entry)) control files (now (codes .entry)) (now (starts .entry)) (now (widths .entry)) (now (places .entry)) (now (stages .entry)) (now (firsts .entry)) (now (lasts .entry)) (now (news .entry)) → LinesOut (linesOf (now (font .entry)) control (now (upper .entry)) (now (lower .entry))) (length (now (out .entry))) r (now (out .exit))) ⌝ }
-{
-    match files {
-        Files::Read {
-            header,
-            count,
-            commands,
-        } => draw_texts(
-            out,
-            scratch,
-            upper,
-            lower,
-            font,
-            header,
-            count,
-            codes,
-            starts,
-            widths,
-            places,
-            commands,
-            stages,
-            firsts,
-            lasts,
-            news,
-        ),
-        Files::Refused(r) => refuse(r.number, r.place, out),
-    }
-}
-
-// Reads both files and draws the two texts.
-fn draw_once(
-    out: &mut [u8],
-    scratch: &mut [u8],
-    upper: &[u8],
-    lower: &[u8],
-    font: &[u8],
-    control: &[u8],
-) -> LinesAnswer
-    requires { ⌜ minStackedScratch ≤ length (now scratch) ⌝ }
-    ensures { λ r. ⌜ LinesOut (linesOf (now (font .entry)) (now (control .entry)) (now (upper .entry)) (now (lower .entry))) (length (now (out .entry))) r (now (out .exit)) ⌝ }
-{
-    let mut codes = [0i32; limits::MAX_CHARACTERS];
-    let mut starts = [0usize; limits::MAX_CHARACTERS];
-    let mut widths = [0usize; limits::MAX_CHARACTERS];
-    let mut places = [0usize; latest::SMALL_CODES];
-    let mut stages = [0usize; limits::MAX_COMMANDS];
-    let mut firsts = [0i32; limits::MAX_COMMANDS];
-    let mut lasts = [0i32; limits::MAX_COMMANDS];
-    let mut news = [0i32; limits::MAX_COMMANDS];
-    let files = drawing::read_files(
-        font,
-        control,
-        &mut codes,
-        &mut starts,
-        &mut widths,
-        &mut places,
-        &mut stages,
-        &mut firsts,
-        &mut lasts,
-        &mut news,
-    );
-    draw_files(
-        out,
-        scratch,
-        upper,
-        lower,
-        font,
-        files,
-        &codes,
-        &starts,
-        &widths,
-        &places,
-        &stages,
-        &firsts,
-        &lasts,
-        &news,
-    )
-}
-
-// 9 for a scratch under 64,000 bytes; otherwise the drawing, which leaves anything in the scratch.
-fn draw_tested(
-    out: &mut [u8],
-    scratch: &mut [u8],
-    upper: &[u8],
-    lower: &[u8],
-    font: &[u8],
-    control: &[u8],
-) -> LinesAnswer
-    ensures { λ r. ⌜ LinesOut (drawLines (length (now (scratch .entry))) (now (font .entry)) (now (control .entry)) (now (upper .entry)) (now (lower .entry))) (length (now (out .entry))) r (now (out .exit)) ⌝ }
-{
-    if scratch.len() < limits::MIN_STACKED_SCRATCH {
-        return refuse(refusals::AREA_TOO_SMALL, 0, out);
-    }
-    draw_once(out, scratch, upper, lower, font, control)
-}
-
-// Draws two texts by a font and a control file, the second under the first: 9 for the scratch, the font's, the control file's, 15, 16, then 9 for the output. The
-// scratch is all zeros afterwards.
-pub fn draw_stacked(
-    font: &[u8],
-    control: &[u8],
-    upper: &[u8],
-    lower: &[u8],
-    scratch: &mut [u8],
-    out: &mut [u8],
-) -> LinesAnswer
-    ensures { λ r. ⌜ LinesOut (drawLines (length (now (scratch .entry))) (now (font .entry)) (now (control .entry)) (now (upper .entry)) (now (lower .entry))) (length (now (out .entry))) r (now (out .exit)) ⌝ }
-    ensures { λ r. ⌜ now (scratch .exit) ≡ zeros (length (now (scratch .entry))) ⌝ }
-{
-    let answer = draw_tested(out, scratch, upper, lower, font, control);
-    ground::zero_from(scratch, 0);
-    answer
 }

@@ -12,16 +12,18 @@ use Rattle.ground.specs.Text.{byte}
 use Rattle.ground.proofs.Tests.{or-left}
 use Rattle.subchars.specs.declared.Direction.the-variants.{LeftToRight}
 use Rattle.subchars.specs.declared.Layout.{Layout}
-use Rattle.subchars.specs.declared.Rule.{Rule}
-use Rattle.subchars.specs.declared.Rule.the-variants as horizontal
-use Rattle.subchars.specs.declared.Joint.{Joint}
-use Rattle.subchars.specs.declared.Joint.the-variants.{ByBlank, ByUniversal, ByRule, Unjoinable}
 use Rattle.subchars.specs.declared.VerticalSmushing.the-variants.{Universal, Controlled}
 use Rattle.subchars.specs.declared.VerticalLayout.{VerticalLayout}
 use Rattle.subchars.specs.declared.VerticalLayout.the-variants.{FullHeight, Fitting, Smushing}
 use Rattle.subchars.specs.Layouts.{has}
-use Rattle.subchars.specs.Pair as horizontal-rules
-use Rattle.subchars.specs.Pair.{blank, joinedIf, orElse, isSome, equalCharacter, underscore, hierarchy, oppositePair, bigX, unlessHardblank, joinedBy, controlled, universal, joint, reads, eitherOrder}
+use Rattle.subchars.specs.Hardblank.{blank}
+use Rattle.rules.specs.declared.Rule.{Rule}
+use Rattle.rules.specs.declared.Rule.the-variants as horizontal
+use Rattle.rules.specs.Rules.{joinedIf, orElse, isSome, equalCharacter, underscore, hierarchy, oppositePair, bigX, unlessHardblank, reads, eitherOrder}
+use Rattle.pairs.specs.declared.Joint.{Joint}
+use Rattle.pairs.specs.declared.Joint.the-variants.{ByBlank, ByUniversal, ByRule, Unjoinable}
+use Rattle.pairs.specs.Pair as horizontal-pair
+use Rattle.pairs.specs.Pair.{joinedBy, controlled, universal, joint}
 use Rattle.vertical.specs.declared.Merge.{Merge}
 use Rattle.vertical.specs.declared.Merge.the-variants.{Into, Apart}
 use Rattle.vertical.specs.VerticalPair.{HorizontalLine, VerticalLine, setHas, horizontalLine, twoBars, firstMerging, withoutBlank, merge, merges, mergedByte, barred}
@@ -89,7 +91,7 @@ module _ (u l : ℕ) (first : u ≡ blank → ⊥) (second : l ≡ blank → ⊥
     by-rules : orElse (madeOf (controlled low blank u l)) (firstMerging (setHas set) lineRules u l) ≡ withoutBlank (Smushing (Controlled set)) u l
     by-rules = ap (λ (o : Option ℕ). orElse o (firstMerging (setHas set) lineRules u l)) three ∙ sym (first-append (setHas set) u l sharedRules lineRules)
 
-  by-layout : (layout : VerticalLayout) → orElse (madeOf (horizontal-rules.withoutBlank (sidewaysLayout layout) LeftToRight blank u l)) (firstMerging (setHas (rulesOf layout)) lineRules u l) ≡ withoutBlank layout u l
+  by-layout : (layout : VerticalLayout) → orElse (madeOf (horizontal-pair.withoutBlank (sidewaysLayout layout) LeftToRight blank u l)) (firstMerging (setHas (rulesOf layout)) lineRules u l) ≡ withoutBlank layout u l
   unfolding orElse universal
   by-layout FullHeight = refl
   by-layout Fitting = refl
@@ -105,7 +107,7 @@ module _ (layout : VerticalLayout) (u l : ℕ) where
   unfolding joint merge orElse
   by-sideways = go (eqb u blank) refl (eqb l blank) refl
     where
-      go : (s : Bool) → eqb u blank ≡ s → (t : Bool) → eqb l blank ≡ t → orElse (madeOf (cond s (ByBlank (record { 0 = l })) (cond t (ByBlank (record { 0 = u })) (horizontal-rules.withoutBlank (sidewaysLayout layout) LeftToRight blank u l)))) behind ≡ cond s (some l) (cond t (some u) (withoutBlank layout u l))
+      go : (s : Bool) → eqb u blank ≡ s → (t : Bool) → eqb l blank ≡ t → orElse (madeOf (cond s (ByBlank (record { 0 = l })) (cond t (ByBlank (record { 0 = u })) (horizontal-pair.withoutBlank (sidewaysLayout layout) LeftToRight blank u l)))) behind ≡ cond s (some l) (cond t (some u) (withoutBlank layout u l))
       go true e t f = refl
       go false e true f = refl
       go false e false f = by-layout u l (eqb-false u blank e) (eqb-false l blank f) layout

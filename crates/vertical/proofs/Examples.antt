@@ -9,7 +9,7 @@ use Rattle.ground.specs.Text.{byte}
 use Rattle.subchars.specs.declared.VerticalSmushing.the-variants.{Universal, Controlled}
 use Rattle.subchars.specs.declared.VerticalLayout.{VerticalLayout}
 use Rattle.subchars.specs.declared.VerticalLayout.the-variants.{FullHeight, Fitting, Smushing}
-use Rattle.subchars.specs.Pair.{joinedIf, orElse, equalCharacter, underscore, classOf, hierarchy}
+use Rattle.rules.specs.Rules.{joinedIf, orElse, equalCharacter, underscore, classOf, hierarchy}
 use Rattle.vertical.specs.VerticalPair.{horizontalLine, twoBars, merge}
 
 pub record Example : Type 0 where

@@ -11,15 +11,16 @@ use lib.Dec.{eqb}
 use borrow.Author.Tests.{eq-eqb, ne-eqb, eqb-true}
 use Rattle.ground.specs.Text.{byte}
 use Rattle.ground.proofs.Tests.{or-left, or-right, or-elim, clash}
-use Rattle.subchars.specs.declared.Rule.{Rule}
-use Rattle.subchars.specs.declared.Rule.the-variants as horizontal
 use Rattle.subchars.specs.declared.VerticalSmushing.the-variants.{Universal, Controlled}
 use Rattle.subchars.specs.declared.VerticalLayout.{VerticalLayout}
 use Rattle.subchars.specs.declared.VerticalLayout.the-variants.{FullHeight, Fitting, Smushing}
-use Rattle.subchars.specs.Pair as horizontal-rules
-use Rattle.subchars.specs.Pair.{blank, joinedIf, orElse, isSome, equalCharacter, underscore, hierarchy, classOf, reads, eitherOrder}
-use Rattle.subchars.proofs.Rules as horizontally
-use Rattle.subchars.proofs.Rules.{is-some, joined-if, as-text}
+use Rattle.subchars.specs.Hardblank.{blank}
+use Rattle.rules.specs.declared.Rule.{Rule}
+use Rattle.rules.specs.declared.Rule.the-variants as horizontal
+use Rattle.rules.specs.Rules as horizontal-rules
+use Rattle.rules.specs.Rules.{joinedIf, orElse, isSome, equalCharacter, underscore, hierarchy, classOf, reads, eitherOrder}
+use Rattle.rules.proofs.Rules as horizontally
+use Rattle.rules.proofs.Rules.{is-some, joined-if, as-text}
 use Rattle.vertical.specs.VerticalPair.{VerticalRule, EqualCharacter, Underscore, Hierarchy, HorizontalLine, VerticalLine, verticalRules, setHas, horizontalLine, twoBars, ruleMerges, firstMerging, withoutBlank, merge, merges, mergedByte, barred, otherRules, EveryVerticalRuleOf}
 
 abbrev pub controlledBy : ℕ → VerticalLayout

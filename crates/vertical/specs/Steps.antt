@@ -11,7 +11,7 @@ use Rattle.subchars.specs.declared.VerticalSmushing.the-variants.{Universal, Co
 use Rattle.subchars.specs.declared.VerticalLayout.{VerticalLayout}
 use Rattle.subchars.specs.declared.VerticalLayout.the-variants.{FullHeight, Fitting, Smushing}
 use Rattle.subchars.specs.declared.Mode.{Mode}
-use Rattle.subchars.specs.Pair.{blank}
+use Rattle.subchars.specs.Hardblank.{blank}
 use Rattle.vertical.specs.declared.Merge.{Merge}
 use Rattle.vertical.specs.declared.Merge.the-variants.{Into, Apart}
 use Rattle.vertical.specs.VerticalPair.{VerticalRule, EqualCharacter, Underscore, Hierarchy, HorizontalLine, VerticalLine}

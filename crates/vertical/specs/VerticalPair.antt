@@ -12,7 +12,8 @@ use Rattle.subchars.specs.declared.VerticalSmushing.the-variants.{Universal, Co
 use Rattle.subchars.specs.declared.VerticalLayout.{VerticalLayout}
 use Rattle.subchars.specs.declared.VerticalLayout.the-variants.{FullHeight, Fitting, Smushing}
 use Rattle.subchars.specs.Layouts.{has}
-use Rattle.subchars.specs.Pair.{blank, joinedIf, orElse, isSome, equalCharacter, underscore, hierarchy, reads, eitherOrder}
+use Rattle.subchars.specs.Hardblank.{blank}
+use Rattle.rules.specs.Rules.{joinedIf, orElse, isSome, equalCharacter, underscore, hierarchy, reads, eitherOrder}
 use Rattle.vertical.specs.declared.PairTest.{PairTest}
 use Rattle.vertical.specs.declared.PairTest.the-variants.{ByLayout, Bars}
 
@@ -88,9 +89,9 @@ abbrev pub otherRules : ℕ → ℕ
 otherRules set = set % 4096
 
 -- What an overlap asks of each pair that faces: that the layout joins it, or that it has a blank or is of two bars.
-abbrev pub passing : PairTest → ℕ → ℕ → Bool
-passing (ByLayout layout) u l = merges layout u l
-passing Bars u l = barred u l
+abbrev pub passesBy : PairTest → ℕ → ℕ → Bool
+passesBy (ByLayout layout) u l = merges layout u l
+passesBy Bars u l = barred u l
 
 -- "17 as in the join, but .. the five rules": a set is a sum of one to five of them, 256 to 7,936 in steps of 256.
 abbrev pub goodSet : ℕ → Bool

@@ -1,6 +1,6 @@
 // The vertical pair decision: what a pair of sub-characters that lie above one another becomes. Hardblanks are blanks by then.
+use pairs::Joint;
 use subchars::Direction;
-use subchars::Joint;
 use subchars::Layout;
 use subchars::Mode;
 use subchars::Smushing;
@@ -8,8 +8,8 @@ use subchars::SubCharacter;
 use subchars::VerticalLayout;
 use subchars::VerticalSmushing;
 ghost use mathlib.Core.Path.{_≡_};
-ghost use Rattle.subchars.specs.Pair.{eitherOrder};
-ghost use Rattle.vertical.specs.VerticalPair.{setHas, twoBars, firstMerging, merge, merges, mergedByte, barred, passing, goodSet, goodVertical};
+ghost use Rattle.rules.specs.Rules.{eitherOrder};
+ghost use Rattle.vertical.specs.VerticalPair.{setHas, twoBars, firstMerging, merge, merges, mergedByte, barred, passesBy, goodSet, goodVertical};
 ghost use Rattle.vertical.specs.Steps.{sidewaysLayout, rulesOf, lineRules, told};
 
 // What an overlap asks of each pair that faces: that the layout joins it, or that it has a blank or is of two bars.
@@ -95,7 +95,7 @@ fn merge_of(layout: VerticalLayout, u: SubCharacter, l: SubCharacter) -> Merge
         direction: Direction::LeftToRight,
         hardblank: SubCharacter(b' '),
     };
-    match subchars::pairs::joint_of(sideways, u, l) {
+    match pairs::joint_of(sideways, u, l) {
         Joint::ByBlank(x) => Merge::Into(x),
         Joint::ByUniversal(x) => Merge::Into(x),
         Joint::ByRule(_, x) => Merge::Into(x),
@@ -137,7 +137,7 @@ fn is_barred(u: SubCharacter, l: SubCharacter) -> bool
 
 // Whether a pair passes a test, u above l.
 pub fn passes(test: PairTest, u: SubCharacter, l: SubCharacter) -> bool
-    ensures { λ t. ⌜ t ≡ passing test (u .0) (l .0) ⌝ }
+    ensures { λ t. ⌜ t ≡ passesBy test (u .0) (l .0) ⌝ }
 {
     match test {
         PairTest::ByLayout(layout) => can_merge(layout, u, l),

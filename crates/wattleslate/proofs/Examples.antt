@@ -15,17 +15,20 @@ use Rattle.subchars.specs.declared.Direction.the-variants.{LeftToRight}
 use Rattle.subchars.specs.declared.Layout.{Layout}
 use Rattle.subchars.specs.declared.Layout.the-variants.{FullWidth, Fitting, Smushing}
 use Rattle.subchars.specs.declared.Smushing.the-variants.{Universal, Controlled}
-use Rattle.subchars.specs.declared.Rule.the-variants.{Hierarchy, BigX, Hardblank}
 use Rattle.subchars.specs.declared.Mode.{Mode}
-use Rattle.subchars.specs.declared.Joint.{Joint}
-use Rattle.subchars.specs.declared.Joint.the-variants.{ByUniversal, ByRule, Unjoinable}
 use Rattle.subchars.specs.Layouts.{fullLayout}
+use Rattle.rules.specs.declared.Rule.the-variants.{Hierarchy, BigX, Hardblank}
+use Rattle.pairs.specs.declared.Joint.{Joint}
+use Rattle.pairs.specs.declared.Joint.the-variants.{ByUniversal, ByRule, Unjoinable}
 use Rattle.header.specs.declared.Given.the-variants.{Absent, Of}
 use Rattle.header.specs.Header.{layoutOf}
-use Rattle.subchars.specs.Pair.{legalHardblank, joinedIf, orElse, equalCharacter, underscore, classOf, hierarchy, opposite, oppositePair, bigX, controlled, universal, joint, joins}
+use Rattle.subchars.specs.Hardblank.{legalHardblank}
+use Rattle.rules.specs.Rules.{joinedIf, orElse, equalCharacter, underscore, classOf, hierarchy, opposite, oppositePair, bigX}
+use Rattle.pairs.specs.Pair.{controlled, universal, joint, joins}
 use Rattle.lanes.specs.Overlap.{laneFacing, facing, hasBlank, free, fitting, oneMore, smushing}
 use Rattle.lanes.specs.Joined.{joinedCells}
-use Rattle.join.specs.Join.{exactBlock, overlap, joinedAt, besides, rowsOf}
+use Rattle.blocks.specs.Block.{exactBlock, rowsOf}
+use Rattle.overlap.specs.Join.{overlap, joinedAt, besides}
 use Rattle.join.specs.Shape.{goodBlock, goodShape}
 use Rattle.join.specs.declared.JoinAnswer.the-variants.{Joined}
 use Rattle.join.specs.JoinCall.{joinTells, toldOf, joinTold, joinArea}

@@ -1,9 +1,6 @@
 -- The laws of the public calls.
 pub mod Examples
-pub mod LookUpLaws
-pub mod RowLaws
 pub mod RowOfTwoLaws
-pub mod MapCases
 pub mod DrawCases
 pub mod DrawLaws
 pub mod ToldApart

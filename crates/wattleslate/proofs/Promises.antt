@@ -18,7 +18,7 @@ use Rattle.ground.specs.Area.{zeros, padded}
 use Rattle.ground.specs.Text.{byte, bytes, among}
 use Rattle.ground.specs.Limits.{maxFontLength, maxControlFile, maxText, maxLineWidth, maxHeight, maxStackHeight, maxCharacters, maxCommands, minLines, minScratch, minStackedScratch, maxCharacterWidth, maxRules, maxStages, maxPackLength, minPackLength}
 use Rattle.ground.specs.Refusals.{refusal, fontTooLong, noSignature, badHardblank, badParameters, tooManyCharacters, areaTooSmall, controlFileTooLong, notACommand, badRanges, extendedCommand, tooManyCommands, textTooLong, lineTooWide, badShape, stackTooHigh, characterTooWide, missingLine, badRow, badCodeTag, damagedPack, codePresent, codeAbsent, noRoom, fontsDiffer, wrongLength}
-use Rattle.ground.specs.Runs.{run, all, begins}
+use Rattle.ground.specs.Runs.{run, all, begins, joined}
 use Rattle.ground.specs.declared.refusals.Refusal.{Refusal}
 use Rattle.ground.proofs.Tests.{clash}
 use Rattle.subchars.specs.declared.Code.{Code}
@@ -32,14 +32,17 @@ use Rattle.subchars.specs.declared.VerticalLayout.{VerticalLayout}
 use Rattle.subchars.specs.declared.VerticalLayout.the-variants as vertical
 use Rattle.subchars.specs.declared.VerticalSmushing.the-variants as vertically
 use Rattle.subchars.specs.declared.Mode.{Mode}
-use Rattle.subchars.specs.declared.Rule.{Rule}
-use Rattle.subchars.specs.declared.Joint.the-variants.{ByRule}
 use Rattle.subchars.specs.Layouts.{has, verticalValues, fullVertical}
-use Rattle.subchars.specs.Pair.{blank, blanked, joins, inSet, byRule, controlled, EveryRuleOf, legalHardblank}
-use Rattle.subchars.specs.Steps.{kindOf, ruleEntry, rulesJoining}
-use Rattle.subchars.proofs.PairRules as pair-table
-use Rattle.subchars.proofs.Rules as rules
-use Rattle.subchars.proofs.Joints as joints
+use Rattle.subchars.specs.Hardblank.{blank, blanked, legalHardblank}
+use Rattle.rules.specs.declared.Rule.{Rule}
+use Rattle.rules.specs.Rules.{byRule}
+use Rattle.rules.proofs.Rules as rules
+use Rattle.kinds.specs.Kinds.{kindOf, ruleEntry, rulesJoining}
+use Rattle.kinds.proofs.PairRules as pair-table
+use Rattle.pairs.specs.declared.Joint.the-variants.{ByRule}
+use Rattle.pairs.specs.Pair.{joins, inSet, controlled, EveryRuleOf}
+use Rattle.pairs.proofs.Sets as sets
+use Rattle.pairs.proofs.Joints as joints
 use Rattle.vertical.specs.VerticalPair.{VerticalRule, EqualCharacter, VerticalLine, ruleValue, setHas, twoBars, ruleMerges, merges, mergedByte, barred, otherRules, EveryVerticalRuleOf}
 use Rattle.vertical.proofs.VerticalRules as vertical-rules
 use Rattle.vertical.proofs.GoodSets as vertical-sets
@@ -47,29 +50,31 @@ use Rattle.lanes.specs.Blocks.{Cells}
 use Rattle.lanes.specs.Overlap.{hasBlank, free, facing, furthest}
 use Rattle.lanes.proofs.Smushing as lanes
 use Rattle.lanes.proofs.Smushing.{Fails}
-use Rattle.join.specs.Join.{Block, exactBlock, leftOf, rightOf, overlap, pairByte, besides}
+use Rattle.blocks.specs.Block.{Block, exactBlock, leftOf, rightOf}
+use Rattle.overlap.specs.Join.{overlap, pairByte, besides}
 use Rattle.join.specs.declared.JoinAnswer.{JoinAnswer}
 use Rattle.join.specs.declared.JoinAnswer.the-variants as join-is
 use Rattle.join.specs.JoinCall.{joinTells, joinTold, joinArea}
-use Rattle.join.proofs.Demand as demand
+use Rattle.overlap.proofs.Demand as demand
 use Rattle.join.proofs.Answers as joining
 use Rattle.join.proofs.Bytes.{joined-byte}
 use Rattle.stack.specs.declared.StackAnswer.{StackAnswer}
 use Rattle.stack.specs.declared.StackAnswer.the-variants as stack-is
 use Rattle.stack.specs.declared.StackAnswer.the-variants.{Stacked}
-use Rattle.stack.specs.Stack.{upright, stackOverlap, Stack, stacked}
+use Rattle.columns.specs.Stack.{upright, stackOverlap, Stack, stacked}
 use Rattle.stack.specs.StackCall.{stackTells, noStack, stackOf, stackTold, stackArea}
-use Rattle.stack.proofs.Demand as stacking
-use Rattle.stack.proofs.Columns as columns
-use Rattle.stack.proofs.Filling as filling
+use Rattle.columns.proofs.Demand as stacking
+use Rattle.columns.proofs.Columns as columns
+use Rattle.columns.proofs.Filling as filling
 use Rattle.stack.proofs.Answers as stack-answers
 use Rattle.stack.proofs.Answers.{BadStack}
 use Rattle.stack.proofs.Bytes.{stacked-byte}
 use Rattle.drawing.specs.declared.DrawAnswer.{DrawAnswer}
-use Rattle.figure.specs.Line.{attached, empty, overlapWith, lineFrom, shown}
+use Rattle.figure.specs.Line.{attached, empty, overlapWith, lineFrom}
+use Rattle.showing.specs.Output.{shown}
 use Rattle.drawing.specs.declared.DrawAnswer.the-variants as draw-is
 use Rattle.figure.proofs.Folding.{first-whole}
-use Rattle.join.specs.Writing.{Like}
+use Rattle.blocks.specs.Writing.{Like}
 use Rattle.lines.specs.Lines.{TextLine, linesFrom, textAt}
 use Rattle.lines.specs.Words.{isBlank, firstWord, afterBlanks}
 use Rattle.lines.specs.Numbers.{codeNumber}
@@ -100,12 +105,12 @@ use Rattle.font.proofs.Comes.{Comes, comments, character, first-row, more-rows}
 use Rattle.font.proofs.TableLaws as font-rows
 use Rattle.entries.specs.Filling.{fontReading, zeroEntry, indexOf}
 use Rattle.entries.proofs.RefusalLaws as index
-use Rattle.entries.specs.Finding.{entryTells, foundTold}
-use Rattle.entries.proofs.ToldApart as entries
+use Rattle.finding.specs.Finding.{entryTells, foundTold}
+use Rattle.finding.proofs.ToldApart as finding
 use Rattle.reader.specs.declared.Use.the-variants.{Nothing}
 use Rattle.reader.specs.declared.LookedUp.{LookedUp}
 use Rattle.reader.specs.declared.LookedUp.the-variants as three
-use Rattle.reader.specs.Reader.{used, lookedUp}
+use Rattle.reader.specs.Reader.{used, lookedUp, lastOf}
 use Rattle.reader.proofs.ThreeLaws as three-cases
 use Rattle.reader.proofs.ThreeLaws.{Has}
 use Rattle.source.specs.declared.Counts.{Counts}
@@ -119,16 +124,17 @@ use Rattle.commands.specs.declared.fields.FieldStep.the-variants.{Field}
 use Rattle.commands.specs.Fields.{field, endsField, goodRanges}
 use Rattle.flc.specs.declared.Command.{Command}
 use Rattle.flc.specs.Control as flc
-use Rattle.flc.specs.Lists.{CommandLists, commandLists, listsOf, roomOf, controlReading}
-use Rattle.flc.specs.Mapping.{fits, newCode, throughStage, mapStages}
-use Rattle.flc.proofs.LentLaws as lent-lists
+use Rattle.flc.specs.Lists.{CommandLists, commandLists, listsOf}
+use Rattle.mapping.specs.Mapping.{fits, newCode, throughStage}
+use Rattle.controlcalls.specs.ControlCall.{roomOf, controlReading}
+use Rattle.controlcalls.proofs.LentLaws as lent-lists
 use Rattle.flc.proofs.RefusalLaws as controls
 use Rattle.flc.proofs.TableLaws as control-rows
 use Rattle.flc.proofs.TableLaws.{Reaches}
-use Rattle.flc.proofs.MappingLaws as mapping
-use Rattle.flc.proofs.MappingLaws.{NoneFits}
-use Rattle.source.specs.Source.{Source, fontSource, packSource}
-use Rattle.drawing.specs.Drawing.{charactersOf, byteChoice, fontLine, fontCounts, lineOf, textCodes, traceOf, directionOf, Lined, drawLined, linedAnswer, bytesOf}
+use Rattle.mapping.proofs.MappingLaws as mapping
+use Rattle.mapping.proofs.MappingLaws.{NoneFits}
+use Rattle.source.specs.Source.{Source, fontSource, packSource, twoSource}
+use Rattle.drawing.specs.Drawing.{charactersOf, byteChoice, fontLine, fontCounts, lineOf, textCodes, traceOf, directionOf, Lined, drawLined, linedAnswer, bytesOf, modeOf}
 use Rattle.drawing.specs.Steps.{withCharacter}
 use Rattle.drawing.proofs.Answers as drawing
 use Rattle.drawing.proofs.DrawingLaws as drawings
@@ -140,29 +146,30 @@ use Rattle.wrapping.specs.declared.WrapAnswer.{WrapAnswer}
 use Rattle.wrapping.specs.declared.WrapAnswer.the-variants as wrap-is
 use Rattle.breaks.specs.Words.{isBreak, inWord, wordFrom, wordBehind, endsWord}
 use Rattle.breaks.specs.Breaking.{Span, span, spanEnd, spansFrom, spansOf}
-use Rattle.wrapping.specs.Wrapping.{wideIn, drawings, choiceWidth, firstWider, Wrap, drawWrapped, wrapIn, wrapAnswer, wrapFirsts, wrapEnds, wrapOutput}
+use Rattle.spans.specs.Spans.{wideIn, drawings, choiceWidth, firstWider}
+use Rattle.wrapping.specs.Wrapping.{Wrap, drawWrapped, wrapIn, wrapAnswer, wrapFirsts, wrapEnds, wrapOutput}
 use Rattle.breaks.specs.Steps.{lastBehind}
 use Rattle.wrapping.proofs.Answers as wrap-answers
 use Rattle.breaks.proofs.BreakingLaws as breaks
 use Rattle.wrapping.proofs.TableLaws as wrap-rows
 use Rattle.wrapping.proofs.TextLines as text-lines
-use Rattle.wattleslate.specs.declared.RowRefusal.the-variants.{NotRefused, Refused}
-use Rattle.wattleslate.specs.RowCall.{rowTells, rowTold, rowBytes}
-use Rattle.wattleslate.specs.declared.LookUpAnswer.the-variants as look-up-is
-use Rattle.wattleslate.specs.LookUpCall.{lookUpTells, lookUpTold}
-use Rattle.wattleslate.specs.declared.MapAnswer.the-variants as map-is
-use Rattle.wattleslate.specs.MapCall.{mapTells, mapTold}
+use Rattle.fontcalls.specs.declared.RowRefusal.the-variants.{NotRefused, Refused}
+use Rattle.fontcalls.specs.RowCall.{rowTells, rowTold, rowBytes}
+use Rattle.fontcalls.specs.declared.LookUpAnswer.the-variants as look-up-is
+use Rattle.fontcalls.specs.LookUpCall.{lookUpTells, lookUpTold}
+use Rattle.controlcalls.specs.declared.MapAnswer.the-variants as map-is
+use Rattle.controlcalls.specs.MapCall.{mapTells, mapTold}
 use Rattle.wattleslate.specs.DrawCall.{drawTells, drawTold, drawOutput}
-use Rattle.wattleslate.proofs.LookUpLaws as look-ups
-use Rattle.wattleslate.proofs.MapCases as mappings
+use Rattle.fontcalls.proofs.LookUpLaws as look-ups
+use Rattle.controlcalls.proofs.MapCases as mappings
 use Rattle.wattleslate.proofs.DrawLaws as draw-calls
-use Rattle.wattleslate.proofs.RowLaws as row-calls
+use Rattle.fontcalls.proofs.RowLaws as row-calls
 use Rattle.wattleslate.proofs.Wiping as wiping
 use Rattle.font.specs.Font as font
 use Rattle.records.specs.declared.Head.{Head}
 use Rattle.records.specs.declared.Place.the-variants as place-is
 use Rattle.records.specs.Versions.{headLength, recordHeadLength, maxWidth}
-use Rattle.records.specs.Records.{isZero, live as liveByte, free as freeByte, minusOne, codeIn, widthIn, rowsIn, sizeIn, listing, noneTwice, hasLive, liveCount}
+use Rattle.records.specs.Records.{isZero, live as liveByte, freeStatus as freeByte, minusOne, codeIn, widthIn, rowsIn, sizeIn, recordList, noneTwice, hasLive, liveCount}
 use Rattle.records.specs.Places.{placeIn}
 use Rattle.records.specs.Letters.{letter, noLetter}
 use Rattle.edits.specs.Changes as edits
@@ -180,16 +187,12 @@ use Rattle.pack.proofs.TableLaws as pack-rows
 use Rattle.packdrawing.specs.PackDrawing.{packMode, packLined, MadeOf}
 use Rattle.packdrawing.proofs.Answers as pack-drawing
 use Rattle.packdrawing.proofs.FontAndPack as font-pack
-use Rattle.source.specs.declared.two.Which.{Which}
-use Rattle.source.specs.declared.two.Which.the-variants as which-is
-use Rattle.source.specs.declared.two.LookedUpInTwo.the-variants as in-two
-use Rattle.source.specs.TwoFonts.{lookedUpInTwo, bytesIn}
+use Rattle.fontlists.specs.declared.two.Which.{Which}
+use Rattle.fontlists.specs.declared.two.Which.the-variants as which-is
+use Rattle.fontlists.specs.declared.two.LookedUpInTwo.the-variants as in-two
+use Rattle.fontlists.specs.TwoFonts.{lookedUpInTwo, bytesIn}
 use Rattle.reader.specs.declared.Use.the-variants as use-is
-use Rattle.reader.specs.Reader.{lastOf}
-use Rattle.source.specs.Source.{twoSource}
-use Rattle.drawing.specs.Drawing.{modeOf}
 use Rattle.request.specs.Request.{rowRequest}
-use Rattle.twofonts.specs.declared.RequestedOfTwo.{RequestedOfTwo}
 use Rattle.twofonts.specs.declared.RequestedOfTwo.the-variants as two-row-is
 use Rattle.twofonts.specs.Fonts.{alike}
 use Rattle.twofonts.specs.RowOfTwo.{rowOfTwo}
@@ -562,7 +565,7 @@ no-pair-by-two-rules = rules.one-rule
 
 -- "Its rule in the set": a rule of the set that joins a pair without a blank gives its byte.
 rule-of-the-set-joins : (set h l r : ℕ) (rule : Rule) (x : ℕ) → inSet set rule ≡ true → byRule rule h l r ≡ some x → controlled set h l r ≡ ByRule rule (record { 0 = x })
-rule-of-the-set-joins = rules.controlled-by
+rule-of-the-set-joins = sets.controlled-by
 
 -- "Universal joins every pair."
 universal-joins-every-pair : (direction : Direction) (hardblank : SubCharacter) (l r : ℕ) → joins (record { layout = Smushing Universal; direction = direction; hardblank = hardblank }) l r ≡ true
@@ -1102,7 +1105,7 @@ look-up-of-a-font = look-ups.looked-exactly
 -- "so does `find_in` over a lent index": of its first entries.
 look-up-in-an-index : (es : List Entry) (count : ℕ) (c : Code) (u : LookedUp) → foundTold es count c ≡ entryTells u ↔ lookedUp c (take count es) ≡ u
 unfolding foundTold
-look-up-in-an-index es count c u = (entries.entry-apart (lookedUp c (take count es)) u, λ e. ap entryTells e)
+look-up-in-an-index es count c u = (finding.entry-apart (lookedUp c (take count es)) u, λ e. ap entryTells e)
 
 -- "Drawing then returns how many text bytes are in the second and in the third group, by the definition of look-up": whatever gives the characters, and by
 -- any control file,
@@ -1474,7 +1477,7 @@ module _ (s : List ℕ) where
       ((heads.isVersion (headSaid .version) ≡ false) ⊎ (headSaid .height < 1) ⊎ (maxHeight < headSaid .height) ⊎ (legalHardblank (headSaid .hardblank .0) ≡ false)) ⊎
       (length s < headLength (headSaid .version)) ⊎
       RecordsBroken ⊎
-      (noneTwice (listing headSaid recordBytes .records) ≡ false))
+      (noneTwice (recordList headSaid recordBytes .records) ≡ false))
   damaged-exactly-when = damage.damaged-when s
 
   -- Check: "20 damaged pack", at 0, and no other refusal; otherwise "height and how many live records".
@@ -1538,7 +1541,7 @@ module _ (s : List ℕ) where
 
     -- Where the record would end behind the last one.
     abbrev endBehind : Head → List (List ℕ) → ℕ
-    endBehind f rs = headLength (f .version) + length (edits.joined rs) + (recordHeadLength (f .version) + f .height * width)
+    endBehind f rs = headLength (f .version) + length (joined rs) + (recordHeadLength (f .version) + f .height * width)
 
     refusal-20-of-pack-put : (p : ℕ) → Puts (edit-is.Refused (refusal damagedPack p)) ↔ ((p ≡ 0) × (heads.meaning s ≡ heads.damaged))
     refusal-20-of-pack-put = pack-rows.put-20 s code width rows
@@ -1561,7 +1564,7 @@ module _ (s : List ℕ) where
     pack-put-otherwise = pack-rows.put-done s code width rows
 
 -- "After it put has room whenever the record fits behind them", and only then.
-room-after-compact : (f : Head) (size width : ℕ) (rs : List (List ℕ)) → calls.hasRoom f size width (edits.kept rs) ≡ leb (headLength (f .version) + length (edits.joined (edits.kept rs)) + (recordHeadLength (f .version) + f .height * width)) size
+room-after-compact : (f : Head) (size width : ℕ) (rs : List (List ℕ)) → calls.hasRoom f size width (edits.kept rs) ≡ leb (headLength (f .version) + length (joined (edits.kept rs)) + (recordHeadLength (f .version) + f .height * width)) size
 room-after-compact = pack-laws.compact-room
 
 -- "Drawing from a pack takes layout and direction with the call; with a font's own it equals drawing from that font": the answer and the bytes, for every control file and text and for areas of every size.

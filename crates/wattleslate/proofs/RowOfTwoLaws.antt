@@ -1,6 +1,6 @@
 -- The calls `row_of_two` and `row_of_two_refusal` agree for every input: the row is the part that the request tells.
 -- Assumes nothing.
-use mathlib.Core.Path.{_≡_, sym, ap, _∙_, subst}
+use mathlib.Core.Path.{_≡_, sym, ap, _∙_}
 use mathlib.Core.List.{List, []}
 use Prim.Native.Nat.{ℕ, _+_, _-_, _≤_}
 use native.Mathlib.Omega.{arith}
@@ -9,9 +9,9 @@ use denote.Ref.{RefT, ptr}
 use Rattle.ground.specs.declared.refusals.Refusal.{Refusal}
 use Rattle.ground.proofs.Tests.{clash}
 use Rattle.subchars.specs.declared.Code.{Code}
-use Rattle.source.specs.declared.two.Which.{Which}
-use Rattle.source.specs.declared.two.Which.the-variants.{First, Second}
-use Rattle.source.specs.TwoFonts.{bytesIn}
+use Rattle.fontlists.specs.declared.two.Which.{Which}
+use Rattle.fontlists.specs.declared.two.Which.the-variants.{First, Second}
+use Rattle.fontlists.specs.TwoFonts.{bytesIn}
 use Rattle.twofonts.specs.declared.RequestedOfTwo.the-variants.{Row, Refused}
 use Rattle.twofonts.specs.RowOfTwo.{rowOfTwo}
 use Rattle.wattleslate.specs.RowOfTwoCall.{partOfTwo, rowOfTwoBytes, lentIn, LiesInOne}

@@ -1,25 +1,12 @@
 -- What an answer tells is all of it: two answers of a call that tell the same are the same.
 -- Assumes nothing.
-use mathlib.Core.Path.{_≡_, refl, ap, ap₂}
+use mathlib.Core.Path.{_≡_, ap, ap₂}
 use mathlib.Core.Bool.{true≢false, false≢true}
 use Rattle.drawing.specs.declared.DrawAnswer.{DrawAnswer}
 use Rattle.drawing.specs.declared.DrawAnswer.the-variants as draw-is
-use Rattle.flc.specs.declared.ControlAnswer.{ControlAnswer}
-use Rattle.flc.specs.declared.ControlAnswer.the-variants as control-is
 use Rattle.join.specs.declared.JoinAnswer.{JoinAnswer}
 use Rattle.join.specs.declared.JoinAnswer.the-variants as join-is
-use Rattle.wattleslate.specs.declared.LookUpAnswer.{LookUpAnswer}
-use Rattle.wattleslate.specs.declared.LookUpAnswer.the-variants as look-up-is
-use Rattle.wattleslate.specs.declared.MapAnswer.{MapAnswer}
-use Rattle.wattleslate.specs.declared.MapAnswer.the-variants as map-is
-use Rattle.wattleslate.specs.declared.RowRefusal.{RowRefusal}
-use Rattle.wattleslate.specs.declared.RowRefusal.the-variants as row-is
-use Rattle.entries.proofs.ToldApart.{entry-apart}
 use Rattle.join.specs.JoinCall.{JoinTold, joinTells}
-use Rattle.wattleslate.specs.LookUpCall.{LookUpTold, lookUpTells}
-use Rattle.wattleslate.specs.RowCall.{RowTold, rowTells}
-use Rattle.wattleslate.specs.ControlCall.{ControlTold, controlTells}
-use Rattle.wattleslate.specs.MapCall.{MapTold, mapTells}
 use Rattle.wattleslate.specs.DrawCall.{DrawTold, drawTells}
 
 pub join-apart : (r s : JoinAnswer) → joinTells r ≡ joinTells s → r ≡ s
@@ -33,27 +20,3 @@ draw-apart (draw-is.Drawn w m) (draw-is.Drawn v n) e = ap (λ (t : DrawTold). dr
 draw-apart (draw-is.Drawn w m) (draw-is.Refused r) e = absurd (false≢true (ap (λ (t : DrawTold). t .refused) e))
 draw-apart (draw-is.Refused r) (draw-is.Drawn w n) e = absurd (true≢false (ap (λ (t : DrawTold). t .refused) e))
 draw-apart (draw-is.Refused r) (draw-is.Refused s) e = ap (λ (t : DrawTold). draw-is.Refused (record { number = t .number; place = t .place })) e
-
-pub control-apart : (r s : ControlAnswer) → controlTells r ≡ controlTells s → r ≡ s
-control-apart (control-is.Read n k) (control-is.Read m j) e = ap₂ control-is.Read (ap (λ (t : ControlTold). t .commands) e) (ap (λ (t : ControlTold). t .stages) e)
-control-apart (control-is.Read n k) (control-is.Refused r) e = absurd (false≢true (ap (λ (t : ControlTold). t .refused) e))
-control-apart (control-is.Refused r) (control-is.Read n k) e = absurd (true≢false (ap (λ (t : ControlTold). t .refused) e))
-control-apart (control-is.Refused r) (control-is.Refused s) e = ap (λ (t : ControlTold). control-is.Refused (record { number = t .number; place = t .place })) e
-
-pub map-apart : (r s : MapAnswer) → mapTells r ≡ mapTells s → r ≡ s
-map-apart (map-is.Mapped y) (map-is.Mapped z) e = ap (λ (t : MapTold). map-is.Mapped (record { 0 = t .code })) e
-map-apart (map-is.Mapped y) (map-is.Refused r) e = absurd (false≢true (ap (λ (t : MapTold). t .refused) e))
-map-apart (map-is.Refused r) (map-is.Mapped z) e = absurd (true≢false (ap (λ (t : MapTold). t .refused) e))
-map-apart (map-is.Refused r) (map-is.Refused s) e = ap (λ (t : MapTold). map-is.Refused (record { number = t .number; place = t .place })) e
-
-pub row-apart : (r s : RowRefusal) → rowTells r ≡ rowTells s → r ≡ s
-row-apart (row-is.NotRefused p v) (row-is.NotRefused q w) e = ap₂ row-is.NotRefused (ap (λ (t : RowTold). t .start) e) (ap (λ (t : RowTold). t .width) e)
-row-apart (row-is.NotRefused p v) (row-is.Refused r) e = absurd (false≢true (ap (λ (t : RowTold). t .refused) e))
-row-apart (row-is.Refused r) (row-is.NotRefused p v) e = absurd (true≢false (ap (λ (t : RowTold). t .refused) e))
-row-apart (row-is.Refused r) (row-is.Refused s) e = ap (λ (t : RowTold). row-is.Refused (record { number = t .number; place = t .place })) e
-
-pub look-up-apart : (r s : LookUpAnswer) → lookUpTells r ≡ lookUpTells s → r ≡ s
-look-up-apart (look-up-is.Looked u) (look-up-is.Looked v) e = ap look-up-is.Looked (entry-apart u v (ap (λ (t : LookUpTold). t .entry) e))
-look-up-apart (look-up-is.Looked u) (look-up-is.Refused r) e = absurd (false≢true (ap (λ (t : LookUpTold). t .refused) e))
-look-up-apart (look-up-is.Refused r) (look-up-is.Looked u) e = absurd (true≢false (ap (λ (t : LookUpTold). t .refused) e))
-look-up-apart (look-up-is.Refused r) (look-up-is.Refused s) e = ap (λ (t : LookUpTold). look-up-is.Refused (record { number = t .number; place = t .place })) e

@@ -12,16 +12,18 @@ use Rattle.ground.specs.declared.refusals.Refusal.{Refusal}
 use Rattle.ground.proofs.Tests.{clash}
 use Rattle.subchars.specs.declared.Mode.{Mode}
 use Rattle.subchars.specs.declared.VerticalLayout.{VerticalLayout}
-use Rattle.join.specs.Join.{exactBlock, leftOf, rightOf, besides, rowsOf}
+use Rattle.blocks.specs.Block.{exactBlock, leftOf, rightOf, rowsOf}
+use Rattle.overlap.specs.Join.{besides}
 use Rattle.join.specs.JoinCall.{joinTold, joinArea}
 use Rattle.stack.specs.StackCall.{stackOf, stackRows, stackTold, stackArea}
-use Rattle.figure.specs.declared.PutAnswer.{PutAnswer}
-use Rattle.figure.specs.declared.PutAnswer.the-variants.{Put, Refused}
-use Rattle.figure.specs.Line.{shown, outputOf, putOnly, outputBytes}
+use Rattle.showing.specs.declared.PutAnswer.{PutAnswer}
+use Rattle.showing.specs.declared.PutAnswer.the-variants.{Put, Refused}
+use Rattle.showing.specs.Output.{shown, outputOf, putOnly, outputBytes}
 use Rattle.font.specs.Font.{FontReading, refuses}
 use Rattle.entries.specs.Filling.{fontReading, zeroEntry, indexOf}
 use Rattle.flc.specs.Control as flc
-use Rattle.flc.specs.Lists.{CommandLists, commandLists, listsOf, controlReading}
+use Rattle.flc.specs.Lists.{CommandLists, commandLists, listsOf}
+use Rattle.controlcalls.specs.ControlCall.{controlReading}
 use Rattle.drawing.specs.declared.DrawAnswer.{DrawAnswer}
 use Rattle.drawing.specs.declared.DrawAnswer.the-variants as drawn
 use Rattle.drawing.specs.Drawing.{Lined, lined, unlined, drawLined, withCounts, linedAnswer, bytesOf}

@@ -1,7 +1,3 @@
 -- The meaning of the public calls.
-pub mod LookUpCall
-pub mod RowCall
 pub mod RowOfTwoCall
-pub mod ControlCall
-pub mod MapCall
 pub mod DrawCall

@@ -6,9 +6,9 @@ use mathlib.Core.List.{List, []}
 use lib.ListN.{take, drop}
 use denote.Ref.{RefT, ptr}
 use Rattle.subchars.specs.declared.Code.{Code}
-use Rattle.source.specs.declared.two.Which.{Which}
-use Rattle.source.specs.declared.two.Which.the-variants.{First, Second}
-use Rattle.source.specs.TwoFonts.{bytesIn}
+use Rattle.fontlists.specs.declared.two.Which.{Which}
+use Rattle.fontlists.specs.declared.two.Which.the-variants.{First, Second}
+use Rattle.fontlists.specs.TwoFonts.{bytesIn}
 use Rattle.twofonts.specs.declared.RequestedOfTwo.{RequestedOfTwo}
 use Rattle.twofonts.specs.declared.RequestedOfTwo.the-variants.{Row, Refused}
 use Rattle.twofonts.specs.RowOfTwo.{rowOfTwo}

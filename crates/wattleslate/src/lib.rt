@@ -1,15 +1,21 @@
 // The public calls. Each is total: it tests its own input, and its `ensures` hold for every input.
 
-// The types that the calls take and answer, and the two calls over a lent index.
+// The types that the calls take and answer, the two calls over a lent index, those that ask one font and those about one control file.
 pub use chars::Entry;
 pub use checking::CheckAnswer;
+pub use controlcalls::MapAnswer;
+pub use controlcalls::map_code;
+pub use controlcalls::read_control;
 pub use drawing::DrawAnswer;
-pub use entries::find_in;
 pub use entries::read_font;
+pub use finding::find_in;
 pub use flc::ControlAnswer;
-use flc::mapping;
-use ground::limits;
-use ground::refusals;
+pub use fontcalls::LookUpAnswer;
+pub use fontcalls::RowRefusal;
+pub use fontcalls::look_up;
+pub use fontcalls::row;
+pub use fontcalls::row_refusal;
+pub use fontlists::two::Which;
 pub use ground::refusals::Refusal;
 pub use header::Given;
 pub use header::Header;
@@ -19,10 +25,7 @@ pub use pack::FindAnswer;
 pub use pack::PackAnswer;
 pub use reader::FontAnswer;
 pub use reader::LookedUp;
-use request::Requested;
-use request::Sought;
 pub use source::Counts;
-pub use source::two::Which;
 pub use stack::StackAnswer;
 pub use subchars::Code;
 pub use subchars::Direction;
@@ -36,7 +39,6 @@ pub use twofonts::RequestedOfTwo;
 pub use twolines::LinesAnswer;
 pub use wrapping::WrapAnswer;
 ghost use mathlib.Core.Path.{_≡_};
-ghost use mathlib.Core.List.{List};
 ghost use lib.ListN.{length};
 ghost use Rattle.ground.specs.Area.{zeros};
 ghost use Rattle.join.specs.JoinCall.{JoinGives};
@@ -51,98 +53,8 @@ ghost use Rattle.packdrawing.specs.PackDrawing.{packLined};
 ghost use Rattle.twofonts.specs.RowOfTwo.{rowOfTwo};
 ghost use Rattle.twofonts.specs.TwoDrawing.{twoLined};
 ghost use Rattle.drawingcheck.specs.CheckDrawing.{drawingChecked};
-ghost use Rattle.request.specs.Request.{rowRequest};
-ghost use Rattle.flc.specs.Lists.{commandLists};
-ghost use Rattle.wattleslate.specs.LookUpCall.{lookUpTells, lookUpTold};
-ghost use Rattle.wattleslate.specs.RowCall.{rowTells, rowTold, rowBytes, LiesAt};
 ghost use Rattle.wattleslate.specs.RowOfTwoCall.{rowOfTwoBytes, LiesInOne};
-ghost use Rattle.wattleslate.specs.ControlCall.{ControlRead};
-ghost use Rattle.wattleslate.specs.MapCall.{mapTells, mapTold};
 ghost use Rattle.wattleslate.specs.DrawCall.{drawTells, drawTold, drawOutput};
-
-// What a look-up answers: which of three it was, with the entry's own code, start and width; or the font's refusal.
-pub enum LookUpAnswer {
-    Looked(LookedUp),
-    Refused(Refusal),
-}
-
-// Whether a row request is refused, and where not, where in the font the row starts and how wide it is.
-pub enum RowRefusal {
-    NotRefused { place: usize, width: usize },
-    Refused(Refusal),
-}
-
-// What mapping a code answers: the new code, or a refusal of the control file.
-pub enum MapAnswer {
-    Mapped(Code),
-    Refused(Refusal),
-}
-
-// Looks a code up in a font: the last character that has it is found, or else the last with code 0 stands in. The font's refusals.
-pub fn look_up(font: &[u8], code: Code) -> LookUpAnswer
-    ensures answer { λ r. ⌜ lookUpTells r ≡ lookUpTold (now (font .entry)) code ⌝ }
-{
-    match request::seek(font, code) {
-        Sought::Found { height: _, entry } => LookUpAnswer::Looked(reader::which_of(entry, code)),
-        Sought::NoDrawing => LookUpAnswer::Looked(LookedUp::Nothing),
-        Sought::Unread(r) => LookUpAnswer::Refused(r),
-    }
-}
-
-// A row of the character that is used for a code, as a part of the font: its bytes as they stand there. A refused row is empty.
-pub fn row<'a>(font: &'a [u8], code: Code, row: usize) -> &'a [u8]
-    ensures part { λ r. ⌜ now r ≡ rowBytes (now (font .entry)) code row ⌝ }
-    ensures place { λ r. ⌜ LiesAt (font .entry) (rowRequest (now (font .entry)) code row) r ⌝ }
-{
-    match request::request(font, code, row) {
-        Requested::Row { place, width } => {
-            let end = place + width;
-            &font[place..end]
-        }
-        Requested::Refused(_) => &font[0..0],
-    }
-}
-
-// The refusal of the same row request, the font's or else 17; or where in the font the row starts and how wide it is.
-pub fn row_refusal(font: &[u8], code: Code, row: usize) -> RowRefusal
-    ensures answer { λ r. ⌜ rowTells r ≡ rowTold (now (font .entry)) code row ⌝ }
-{
-    match request::request(font, code, row) {
-        Requested::Row { place, width } => RowRefusal::NotRefused { place, width },
-        Requested::Refused(r) => RowRefusal::Refused(r),
-    }
-}
-
-// Reads a control file into four lists of 256 entries or more, with zeros behind: each mapping command's stage, first and last code, and first
-// new code. The answer counts commands and stages. A refusal (9 to 14) leaves the lists all zeros.
-pub fn read_control(
-    control: &[u8],
-    stages: &mut [usize],
-    firsts: &mut [i32],
-    lasts: &mut [i32],
-    news: &mut [i32],
-) -> ControlAnswer
-    ensures { λ r. ⌜ ControlRead (now (control .entry)) (commandLists (now (stages .entry)) (now (firsts .entry)) (now (lasts .entry)) (now (news .entry))) r (commandLists (now (stages .exit)) (now (firsts .exit)) (now (lasts .exit)) (now (news .exit))) ⌝ }
-{
-    flc::read_lent(control, stages, firsts, lasts, news)
-}
-
-// Maps a code by a control file, stage after stage. Refusals are those of the file (10 to 14).
-pub fn map_code(control: &[u8], code: Code) -> MapAnswer
-    ensures answer { λ r. ⌜ mapTells r ≡ mapTold (now (control .entry)) code ⌝ }
-{
-    let mut stages = [0usize; limits::MAX_COMMANDS];
-    let mut firsts = [0i32; limits::MAX_COMMANDS];
-    let mut lasts = [0i32; limits::MAX_COMMANDS];
-    let mut news = [0i32; limits::MAX_COMMANDS];
-    match flc::read_lists(control, &mut stages, &mut firsts, &mut lasts, &mut news) {
-        ControlAnswer::Read {
-            commands,
-            stages: _,
-        } => MapAnswer::Mapped(mapping::map_by(&stages, &firsts, &lasts, &news, commands, code)),
-        ControlAnswer::Refused(r) => MapAnswer::Refused(r),
-    }
-}
 
 // Joins a FIGcharacter to a line of equal height as the layout says, and writes the result to `out`, row after row with zeros behind.
 // Writing left to right the character goes to the line's right, otherwise to its left. A refusal (17, 16, 9) leaves `out` all zeros.
@@ -216,7 +128,7 @@ pub fn draw(
     ensures output { λ r. ⌜ now (out .exit) ≡ drawOutput (length (now (scratch .entry))) (now (font .entry)) (now (control .entry)) (now (text .entry)) (length (now (out .entry))) ⌝ }
     ensures scratch { λ r. ⌜ now (scratch .exit) ≡ zeros (length (now (scratch .entry))) ⌝ }
 {
-    drawing::draw(font, control, text, scratch, out)
+    fontdrawing::draw(font, control, text, scratch, out)
 }
 
 // Draws two texts by a font and a control file, the lower line under the upper one and closed up as the font's vertical layout says, and writes them to
@@ -233,7 +145,7 @@ pub fn draw_stacked(
     ensures lines { λ r. ⌜ LinesOut (drawLines (length (now (scratch .entry))) (now (font .entry)) (now (control .entry)) (now (upper .entry)) (now (lower .entry))) (length (now (out .entry))) r (now (out .exit)) ⌝ }
     ensures scratch { λ r. ⌜ now (scratch .exit) ≡ zeros (length (now (scratch .entry))) ⌝ }
 {
-    twolines::draw_stacked(font, control, upper, lower, scratch, out)
+    stackdrawing::draw_stacked(font, control, upper, lower, scratch, out)
 }
 
 // Draws a text by a font and a control file in lines at most `limit` columns wide, 1 to 1,000, each with the most words that fit; a first word that does not fit

@@ -13,7 +13,7 @@ use Rattle.ground.specs.Limits.{maxLineWidth, maxText, minLines, minScratch}
 use Rattle.ground.specs.Refusals.{refusal, areaTooSmall, textTooLong, lineTooWide, badShape, characterTooWide}
 use Rattle.ground.specs.declared.refusals.Refusal.{Refusal}
 use Rattle.ground.proofs.Tests.{and-left, and-right, or-left, or-right, below-or-not}
-use Rattle.join.specs.Join.{Block}
+use Rattle.blocks.specs.Block.{Block}
 use Rattle.header.specs.declared.Header.{Header}
 use Rattle.chars.specs.declared.Entry.{Entry}
 use Rattle.font.specs.Font as font
@@ -28,7 +28,8 @@ use Rattle.wrapping.specs.declared.WrapAnswer.{WrapAnswer}
 use Rattle.wrapping.specs.declared.WrapAnswer.the-variants.{Wrapped, Refused}
 use Rattle.breaks.specs.Words.{inWord}
 use Rattle.breaks.specs.Breaking.{Span, spansOf}
-use Rattle.wrapping.specs.Wrapping.{lineBy, wideIn, drawings, choiceWidth, tooWide, firstWider, Wrap, wrapped, unwrapped, wrapText, badLimit, wrapTested, wrapBy, wrapOf, drawWrapped, wrapIn, wrapAnswer}
+use Rattle.spans.specs.Spans.{lineBy, wideIn, drawings, choiceWidth, tooWide, firstWider}
+use Rattle.wrapping.specs.Wrapping.{Wrap, wrapped, unwrapped, wrapText, badLimit, wrapTested, wrapBy, wrapOf, drawWrapped, wrapIn, wrapAnswer}
 use Rattle.breaks.proofs.Largest.{run-at, run-end}
 use Rattle.wrapping.proofs.OrderLaws.{text-wider, text-fits, tested-long, tested-limit, tested-text, limit-large, read-wrapped, firsts-small, ends-small, scratch-small, areas-enough}
 

@@ -26,11 +26,11 @@ use Rattle.flc.specs.Control as flc
 use Rattle.drawing.specs.Drawing.{textCodes, modeOf, Lined, lined, unlined, linedBy, linedOf}
 use Rattle.wrapping.specs.declared.WrapAnswer.{WrapAnswer}
 use Rattle.wrapping.specs.declared.WrapAnswer.the-variants.{Wrapped, Refused}
-use Rattle.wrapping.specs.declared.LinesPut.{LinesPut}
-use Rattle.wrapping.specs.declared.LinesPut.the-variants as put
+use Rattle.spans.specs.declared.LinesPut.{LinesPut}
 use Rattle.breaks.specs.Breaking.{Span}
-use Rattle.wrapping.specs.Wrapping.{lineBy, firstWider, Wrap, wrapped, unwrapped, wrapLines, wrapText, badLimit, wrapTested, wrapBy, wrapOf, drawWrapped, wrapIn, wrapAnswer, wrapSpans, wrapBytes, WrapOut}
-use Rattle.wrapping.specs.Steps.{PutSo, PutAs}
+use Rattle.spans.specs.Spans.{lineBy, firstWider}
+use Rattle.wrapping.specs.Wrapping.{Wrap, wrapped, unwrapped, wrapLines, wrapText, badLimit, wrapTested, wrapBy, wrapOf, drawWrapped, wrapIn, wrapAnswer, wrapSpans, wrapBytes, WrapOut}
+use Rattle.spans.specs.Steps.{PutSo, PutAs}
 
 -- The areas.
 module _ (firstRoom endRoom room : ℕ) (a : WrapAnswer) (firsts ends out : List ℕ) where

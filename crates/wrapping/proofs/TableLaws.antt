@@ -1,7 +1,7 @@
 -- The rows of the refusal table for a text in lines: what each answer is given for, spelled out.
 -- Assumes nothing.
-use mathlib.Core.Path.{_≡_, refl, sym, ap, _∙_, subst}
-use mathlib.Core.Bool.{Bool, true}
+use mathlib.Core.Path.{_≡_, refl, sym, _∙_, subst}
+use mathlib.Core.Bool.{true}
 use mathlib.Core.List.{List}
 use mathlib.Core.Logic.{_↔_, _⊎_, inl, inr, ⊎-elim}
 use Prim.Native.Nat.{ℕ, _≤_, _<_}
@@ -25,7 +25,7 @@ use Rattle.wrapping.specs.declared.WrapAnswer.{WrapAnswer}
 use Rattle.wrapping.specs.declared.WrapAnswer.the-variants.{Wrapped, Refused}
 use Rattle.breaks.specs.Words.{inWord}
 use Rattle.breaks.specs.Breaking.{Span, spansOf}
-use Rattle.wrapping.specs.Wrapping.{wideIn, drawings, choiceWidth, firstWider}
+use Rattle.spans.specs.Spans.{wideIn, drawings, choiceWidth, firstWider}
 use Rattle.wrapping.proofs.Answers as answers
 use Rattle.wrapping.proofs.Answers.{Enough, FilesRead, LimitGood, WrapsTo, areas-small, font-refused, control-refused, text-too-long, limit-bad, character-wide, output-small, wraps, wider-at, none-before}
 

@@ -10,18 +10,18 @@ use lib.ListN.{length, drop, getD, take-append-drop}
 use lib.Seq.{drop-drop}
 use borrow.Author.Tests.{not-true}
 use Rattle.subchars.specs.declared.Mode.{Mode}
-use Rattle.join.specs.Join.{Block}
-use Rattle.figure.specs.Line.{shown}
+use Rattle.blocks.specs.Block.{Block}
+use Rattle.showing.specs.Output.{shown}
 use Rattle.source.specs.Source.{Source}
 use Rattle.flc.specs.declared.Command.{Command}
 use Rattle.breaks.specs.Words.{isBreak, inWord, wordFrom, wordBehind, endsWord}
 use Rattle.breaks.specs.Breaking.{Span, span, spanEnd, spansFrom, spansOf}
-use Rattle.wrapping.specs.Wrapping.{part, lineBy, wideIn, drawings, firstWider}
+use Rattle.spans.specs.Spans.{part, lineBy, wideIn, drawings, firstWider}
 use Rattle.breaks.specs.Steps.{NoneWider, Grows, lastBehind}
 use Rattle.breaks.proofs.WordLaws.{run-here, start-in-word, behind-le, behind-ends, behind-all, word-before, word-none}
 use Rattle.breaks.proofs.BreakingLaws.{Each, each-so, each-at, InOrder, Apart, Line, line-is, whole-words, word-broken, from-some, from-none, lines-each, lines-in-order, lines-at-most, lines-apart, no-words}
-use Rattle.wrapping.proofs.DrawnLaws.{part-grows, none-wider}
-use Rattle.wrapping.proofs.PuttingLaws.{drawings-append, drawings-one}
+use Rattle.spans.proofs.DrawnLaws.{part-grows, none-wider}
+use Rattle.spans.proofs.PuttingLaws.{drawings-append, drawings-one}
 
 -- The parts of the lines in order, with what stands before them, between them and behind them.
 unfoldable pub pieces : List ℕ → ℕ → List Span → List ℕ

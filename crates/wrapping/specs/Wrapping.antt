@@ -1,60 +1,28 @@
 -- A text drawn in lines that are at most a limit wide: document 02, Q-4. "Given a column limit from 1 to 1,000, break the text at blanks."
 -- Assumes nothing.
 use mathlib.Core.Path.{_≡_}
-use Prim.Native.Nat.{ℕ, _-_}
-use mathlib.Core.Bool.{Bool, cond, not, _&&_, _||_}
-use mathlib.Core.List.{List, [], _∷_, _++_, map}
+use Prim.Native.Nat.{ℕ}
+use mathlib.Core.Bool.{Bool, cond, _||_}
+use mathlib.Core.List.{List, [], map}
 use lib.Dec.{ltb}
-use lib.ListN.{length, take, drop}
+use lib.ListN.{length}
 use Rattle.ground.specs.Area.{padded}
 use Rattle.ground.specs.Limits.{maxLineWidth, maxText, minLines, minScratch}
 use Rattle.ground.specs.Refusals.{refusal, areaTooSmall, textTooLong, badShape, characterTooWide}
-use Rattle.ground.specs.Runs.{run}
 use Rattle.ground.specs.declared.refusals.Refusal.{Refusal}
 use Rattle.subchars.specs.declared.Mode.{Mode}
-use Rattle.join.specs.Join.{Block}
-use Rattle.figure.specs.Line.{shown}
+use Rattle.blocks.specs.Block.{Block}
 use Rattle.font.specs.Font as font
 use Rattle.source.specs.declared.Counts.{Counts}
-use Rattle.source.specs.Source.{Choice, found, stoodIn, nothing, Source, fontSource}
+use Rattle.source.specs.Source.{Source, fontSource}
 use Rattle.source.specs.Counting.{countsOf}
 use Rattle.flc.specs.declared.Command.{Command}
 use Rattle.flc.specs.Control as flc
-use Rattle.drawing.specs.Drawing.{textCodes, byteChoice, lineOf, modeOf}
+use Rattle.drawing.specs.Drawing.{textCodes, modeOf}
 use Rattle.wrapping.specs.declared.WrapAnswer.{WrapAnswer}
 use Rattle.wrapping.specs.declared.WrapAnswer.the-variants.{Wrapped, Refused}
-use Rattle.breaks.specs.Words.{inWord}
 use Rattle.breaks.specs.Breaking.{Span, spansOf}
-
--- A line is the part of the text from its first word's first byte to the end of its last word.
-abbrev pub part : List ℕ → ℕ → ℕ → List ℕ
-part s b e = take (e - b) (drop b s)
-
--- Its characters are drawn as a text of their own: the line of a text by a source and a control file's commands, and how wide a part of the text then is.
-abbrev pub lineBy : Mode → ℕ → Source → List Command → ℕ → List ℕ → Block
-lineBy y h source cs k text = lineOf y h source (textCodes cs k text)
-
-abbrev pub wideIn : (List ℕ → Block) → List ℕ → ℕ → ℕ → ℕ
-wideIn line s b e = line (part s b e) .width
-
--- "The drawings of the lines follow one another, each in its own width."
-unfoldable pub drawings : ℕ → ℕ → (List ℕ → Block) → List ℕ → List Span → List ℕ
-drawings hardblank h line s [] = []
-drawings hardblank h line s (x ∷ xs) = shown hardblank h (line (part s (x .first) (x .behind))) ++ drawings hardblank h line s xs
-
--- "19, a single character other than a blank wider than the limit": byte x of a text, and what a source has for its code. A code that draws nothing is 0
--- wide.
-abbrev pub choiceWidth : Choice → ℕ
-choiceWidth (found character) = character .width
-choiceWidth (stoodIn character) = character .width
-choiceWidth nothing = 0
-
-abbrev pub tooWide : ℕ → ℕ → Choice → Bool
-tooWide limit x choice = inWord x && ltb limit (choiceWidth choice)
-
--- The place in the text of the first such one, after mapping and stand-in; the text's length where there is none.
-unfoldable pub firstWider : Source → List Command → ℕ → ℕ → List ℕ → ℕ
-firstWider source cs k limit text = run (λ x. not (tooWide limit x (byteChoice source cs k x))) text
+use Rattle.spans.specs.Spans.{lineBy, wideIn, drawings, firstWider}
 
 -- What wrapping comes to: the lines, the bytes of their drawings, and the counts of the whole text (02, Q-2); or a refusal.
 pub data Wrap : Type 0 where

@@ -3,7 +3,7 @@
 use mathlib.Core.Path.{sym, ap, _∙_, subst}
 use borrow.Author.Needs.{needs}
 use Rattle.flc.specs.declared.ControlAnswer.{ControlAnswer}
-use Rattle.wattleslate.specs.ControlCall.{controlTells}
+use Rattle.controlcalls.specs.ControlCall.{controlTells}
 use Rattle.answers.specs.Numbers.{controlNumber}
 use Rattle.answers.specs.Fits.{ControlFits}
 use Rattle.answers.proofs.control_number.Statement.{statement}

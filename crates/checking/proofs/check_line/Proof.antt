@@ -6,9 +6,9 @@ use Prim.Native.Nat.{ℕ, _-_, _≤_}
 use lib.ListN.{length}
 use borrow.Author.Needs.{needs}
 use Rattle.ground.specs.Limits.{maxLineWidth}
-use Rattle.join.specs.Join.{Block}
-use Rattle.figure.specs.Line.{shown}
-use Rattle.figure.specs.Scratch.{scratchLine}
+use Rattle.blocks.specs.Block.{Block}
+use Rattle.showing.specs.Output.{shown}
+use Rattle.showing.specs.Scratch.{scratchLine}
 use Rattle.checking.specs.declared.CheckAnswer.{CheckAnswer}
 use Rattle.checking.specs.declared.Compared.{Compared}
 use Rattle.checking.specs.declared.Compared.the-variants.{Same}

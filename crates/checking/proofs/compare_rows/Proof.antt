@@ -9,11 +9,11 @@ use lib.ListN.{length, getD}
 use borrow.Author.Count.{below-more}
 use borrow.Author.Needs.{needs}
 use Rattle.ground.specs.Limits.{maxLineWidth}
-use Rattle.join.proofs.Rows.{length-rows, rows-at, row-next}
-use Rattle.join.specs.Join.{rowsOf}
-use Rattle.join.specs.Writing.{fromOn}
+use Rattle.blocks.proofs.Rows.{length-rows, rows-at, row-next}
+use Rattle.blocks.specs.Block.{rowsOf}
+use Rattle.blocks.specs.Writing.{fromOn}
 use Rattle.lanes.specs.Blocks.{Cells}
-use Rattle.figure.specs.Line.{withLF}
+use Rattle.showing.specs.Output.{withLF}
 use Rattle.checking.proofs.Comparing.{EqualBefore, differs-here, all-same, shorter-ends, row-below}
 use Rattle.checking.proofs.compare_rows.Statement.{statement}
 use Rattle.checking.proofs.compare_rows.Tie as tie

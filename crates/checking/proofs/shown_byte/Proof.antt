@@ -2,8 +2,8 @@
 -- Assumes nothing.
 use borrow.Author.Needs.{needs}
 use borrow.Author.Tests.{le-ltb}
-use Rattle.figure.proofs.Showing.{cell-shown}
-use Rattle.join.specs.Writing.{fromOn}
+use Rattle.showing.proofs.Showing.{cell-shown}
+use Rattle.blocks.specs.Writing.{fromOn}
 use Rattle.checking.proofs.shown_byte.Statement.{statement}
 use Rattle.checking.proofs.shown_byte.Tie as tie
 

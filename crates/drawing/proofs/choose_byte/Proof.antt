@@ -4,8 +4,8 @@ use mathlib.Core.Path.{ap, _∙_, subst}
 use borrow.Author.Needs.{needs}
 use Rattle.subchars.specs.declared.Code.{Code}
 use Rattle.source.specs.Steps.{PickedAs}
-use Rattle.flc.specs.Mapping.{mapStages}
-use Rattle.flc.proofs.HeldLaws.{usable, mapped}
+use Rattle.mapping.specs.Mapping.{mapStages}
+use Rattle.mapping.proofs.HeldLaws.{usable, mapped}
 use Rattle.drawing.proofs.choose_byte.Statement.{statement}
 use Rattle.drawing.proofs.choose_byte.Tie as tie
 

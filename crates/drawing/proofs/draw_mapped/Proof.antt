@@ -5,8 +5,8 @@ use lib.ListN.{length}
 use borrow.Author.Needs.{needs}
 use Rattle.flc.specs.declared.ControlAnswer.{ControlAnswer}
 use Rattle.flc.specs.Control.{ControlReading}
-use Rattle.flc.specs.Passing.{ControlHeldBy}
-use Rattle.flc.proofs.HeldLaws.{told}
+use Rattle.mapping.specs.Passing.{ControlHeldBy}
+use Rattle.mapping.proofs.HeldLaws.{told}
 use Rattle.drawing.specs.Drawing.{Lined, linedFrom, PutOut}
 use Rattle.drawing.proofs.draw_mapped.Statement.{statement}
 use Rattle.drawing.proofs.draw_mapped.Tie as tie

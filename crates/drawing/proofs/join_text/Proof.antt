@@ -7,7 +7,7 @@ use native.Mathlib.Omega.{arith}
 use lib.ListN.{length}
 use borrow.Author.Needs.{needs}
 use Rattle.ground.specs.Limits.{maxHeight}
-use Rattle.flc.specs.Passing.{ControlHeld}
+use Rattle.mapping.specs.Passing.{ControlHeld}
 use Rattle.source.specs.Source.{Source}
 use Rattle.source.specs.Held.{Gives}
 use Rattle.source.proofs.CharacterLaws.{given-high}

@@ -2,7 +2,6 @@
 -- Assumes nothing.
 use mathlib.Core.Path.{sym, ap}
 use borrow.Author.Needs.{needs}
-use Rattle.figure.specs.declared.PutAnswer.{PutAnswer}
 use Rattle.drawing.specs.Drawing.{withCounts}
 use Rattle.drawing.proofs.with_counts.Statement.{statement}
 use Rattle.drawing.proofs.with_counts.Tie as tie

@@ -5,7 +5,7 @@ use Rattle.subchars.specs.declared.Mode.{Mode}
 use Rattle.flc.specs.Control as flc
 use Rattle.source.specs.Source.{fontSource}
 use Rattle.source.proofs.CharacterLaws.{font-gives}
-use Rattle.drawing.proofs.HeldLaws.{held-as}
+use Rattle.bothfiles.proofs.HeldLaws.{held-as}
 use Rattle.drawingcheck.specs.CheckDrawing.{checkedFrom}
 use Rattle.drawingcheck.proofs.CheckCases.{files-said, files-refused}
 use borrow.Author.Needs.{needs}

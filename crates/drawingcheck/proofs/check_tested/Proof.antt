@@ -1,7 +1,6 @@
 -- `drawingcheck::check_tested` meets its contract.
 -- Assumes nothing.
 use mathlib.Core.Path.{_∙_}
-use native.Mathlib.Omega.{arith}
 use lib.ListN.{length}
 use Rattle.drawingcheck.proofs.CheckCases.{scratch-small, scratch-enough}
 use borrow.Author.Needs.{needs}

@@ -5,7 +5,7 @@ use native.Mathlib.Omega.{arith}
 use borrow.Author.Needs.{needs}
 use Rattle.source.specs.declared.Chosen.{Chosen}
 use Rattle.checking.specs.Steps.{tallied}
-use Rattle.drawingcheck.specs.Steps.{Grows, withChosen}
+use Rattle.drawingcheck.specs.Steps.{GrowsBy, withChosen}
 use Rattle.drawingcheck.proofs.with_chosen.Statement.{statement}
 use Rattle.drawingcheck.proofs.with_chosen.Tie as tie
 
@@ -15,13 +15,13 @@ enum-known-chosen c = search needs
 add-with-overlap : tie.Need-add-with-overlap
 add-with-overlap c =
     let p = c .before .before .before .before .pre in
-    let g = subst (λ (r : Chosen). Grows r (c .before .before .before .before .args .n) (c .before .before .before .before .args .w)) (c .before .chosen .given .1) (p .2) in
+    let g = subst (λ (r : Chosen). GrowsBy r (c .before .before .before .before .args .n) (c .before .before .before .before .args .w)) (c .before .chosen .given .1) (p .2) in
     omega (arith, p .1, g .1)
 
 sub-with-overlap : tie.Need-sub-with-overlap
 sub-with-overlap c =
     let p = c .before .before .before .before .pre in
-    let g = subst (λ (r : Chosen). Grows r (c .before .before .before .before .args .n) (c .before .before .before .before .args .w)) (c .before .chosen .given .1) (p .2) in
+    let g = subst (λ (r : Chosen). GrowsBy r (c .before .before .before .before .args .n) (c .before .before .before .before .args .w)) (c .before .chosen .given .1) (p .2) in
     omega (arith, g .0)
 
 with-overlap-requires : tie.Need-with-overlap-requires

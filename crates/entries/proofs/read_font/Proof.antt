@@ -64,13 +64,13 @@ use Rattle.reader.proofs.FontAnswer as F
 use Rattle.reader.proofs.FontAnswer.Laws as F′
 use Rattle.entries.proofs.listing.Listed as L
 use Rattle.entries.proofs.listing.Listed.Laws as L′
-use Rattle.entries.proofs.Row.{R, val, vals, tells, place-24, step-fits, next-fits, makes, typed}
+use Rattle.finding.proofs.Row.{R, val, vals, tells, place-24, step-fits, next-fits, makes, typed}
 use Rattle.entries.proofs.Local.{lies-row, row-room}
 use Rattle.entries.proofs.Moved.{moved, moved-next, moved-length, moved-all}
 use Rattle.entries.proofs.FillLaws.{index-room, index-at}
-use Rattle.entries.proofs.Counted.{counts}
-use Rattle.entries.proofs.CallSmaller as S
-use Rattle.entries.proofs.CallSmaller.{Smaller}
+use Rattle.finding.proofs.Counted.{counts}
+use Rattle.finding.proofs.CallSmaller as S
+use Rattle.finding.proofs.CallSmaller.{Smaller}
 use Rattle.ground.proofs.smaller.Symbol as smaller-def
 use Rattle.ground.proofs.smaller.Symbol.{name as #ground·smaller}
 use Rattle.ground.proofs.smaller.Met as smaller-thm

@@ -1,15 +1,13 @@
 -- `heads::open` meets its contract.
 -- Assumes nothing.
-use mathlib.Core.Path.{_≡_, refl, sym, ap, _∙_, subst}
-use mathlib.Core.Bool.{Bool, not, _&&_}
-use mathlib.Core.List.{List}
-use Prim.Native.Nat.{ℕ, _+_, _-_, _*_, _≤_, _<_}
+use mathlib.Core.Path.{sym, ap, _∙_}
+use Prim.Native.Nat.{ℕ}
 use native.Mathlib.Omega.{arith}
 use borrow.Author.Needs.{needs}
-use lib.ListN.{length, take, drop, getD}
-use Rattle.records.specs.Records.{listing}
-use Rattle.records.specs.Steps.{verdict}
-use Rattle.heads.proofs.HeadLaws.{Headed, headed-read}
+use lib.ListN.{drop}
+use Rattle.records.specs.Records.{recordList}
+use Rattle.records.specs.Steps.{soundness}
+use Rattle.heads.proofs.HeadLaws.{headed-read}
 use Rattle.heads.proofs.OpenLaws.{opened-sound, opened-broken, opened-none}
 use Rattle.heads.proofs.open.Statement.{statement}
 use Rattle.heads.proofs.open.Tie as tie
@@ -36,10 +34,10 @@ enum-told-2 : tie.Need-enum-told-2
 enum-told-2 c = search needs
 
 returns : tie.Need-returns
-returns c = opened-sound (c .before .before .before .before .before .before .before .before .before .before .args .s .now) (c .before .before .before .before .before .before .head .given .0 .0) (c .before .live .given .0 .0) (headed-read (c .before .before .before .before .before .before .before .before .before .before .args .s .now) (c .before .before .before .before .before .before .head .given .0 .0) (sym (c .before .before .before .before .before .before .head .given .1) ∙ c .before .before .before .before .before .before .before .before .read-head .ensures)) (sym (c .before .live .given .1) ∙ c .before .before .before .test-records .ensures ∙ ap (λ (j : ℕ). verdict (listing (c .before .before .before .before .before .before .head .given .0 .0) (drop j (c .before .before .before .before .before .before .before .before .before .before .args .s .now)))) (c .before .before .before .before .head-length .ensures))
+returns c = opened-sound (c .before .before .before .before .before .before .before .before .before .before .args .s .now) (c .before .before .before .before .before .before .head .given .0 .0) (c .before .live .given .0 .0) (headed-read (c .before .before .before .before .before .before .before .before .before .before .args .s .now) (c .before .before .before .before .before .before .head .given .0 .0) (sym (c .before .before .before .before .before .before .head .given .1) ∙ c .before .before .before .before .before .before .before .before .read-head .ensures)) (sym (c .before .live .given .1) ∙ c .before .before .before .test-records .ensures ∙ ap (λ (j : ℕ). soundness (recordList (c .before .before .before .before .before .before .head .given .0 .0) (drop j (c .before .before .before .before .before .before .before .before .before .before .args .s .now)))) (c .before .before .before .before .head-length .ensures))
 
 returns-2 : tie.Need-returns-2
-returns-2 c = opened-broken (c .before .before .before .before .before .before .before .before .before .args .s .now) (c .before .before .before .before .before .head .given .0 .0) (headed-read (c .before .before .before .before .before .before .before .before .before .args .s .now) (c .before .before .before .before .before .head .given .0 .0) (sym (c .before .before .before .before .before .head .given .1) ∙ c .before .before .before .before .before .before .before .read-head .ensures)) (sym (c .enum-told .given .1) ∙ c .before .before .test-records .ensures ∙ ap (λ (j : ℕ). verdict (listing (c .before .before .before .before .before .head .given .0 .0) (drop j (c .before .before .before .before .before .before .before .before .before .args .s .now)))) (c .before .before .before .head-length .ensures))
+returns-2 c = opened-broken (c .before .before .before .before .before .before .before .before .before .args .s .now) (c .before .before .before .before .before .head .given .0 .0) (headed-read (c .before .before .before .before .before .before .before .before .before .args .s .now) (c .before .before .before .before .before .head .given .0 .0) (sym (c .before .before .before .before .before .head .given .1) ∙ c .before .before .before .before .before .before .before .read-head .ensures)) (sym (c .enum-told .given .1) ∙ c .before .before .test-records .ensures ∙ ap (λ (j : ℕ). soundness (recordList (c .before .before .before .before .before .head .given .0 .0) (drop j (c .before .before .before .before .before .before .before .before .before .args .s .now)))) (c .before .before .before .head-length .ensures))
 
 returns-3 : tie.Need-returns-3
 returns-3 c = opened-none _ (sym (c .enum-told2 .given .1) ∙ c .before .before .read-head .ensures)

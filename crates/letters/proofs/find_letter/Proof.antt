@@ -1,15 +1,12 @@
 -- `letters::find_letter` meets its contract.
 -- Assumes nothing.
-use mathlib.Core.Path.{_≡_, sym, ap, ap₂, _∙_}
-use Prim.Native.Nat.{_<_}
+use mathlib.Core.Path.{ap, ap₂, _∙_}
 use native.Mathlib.Omega.{arith}
 use borrow.Author.Needs.{needs}
-use Rattle.heads.specs.Pack.{Pack, says}
 use Rattle.heads.proofs.FindLaws.{walkable, found}
 use Rattle.heads.proofs.OpenLaws.{says-one}
 use Rattle.records.specs.Places.{placeIn}
 use Rattle.records.specs.Versions.{headLength}
-use Rattle.letters.specs.Held.{heldOf}
 use Rattle.letters.proofs.find_letter.Statement.{statement}
 use Rattle.letters.proofs.find_letter.Tie as tie
 

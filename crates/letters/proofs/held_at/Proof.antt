@@ -2,7 +2,7 @@
 -- Assumes nothing.
 use mathlib.Core.Path.{_≡_, sym, ap, _∙_}
 use native.Mathlib.Omega.{arith}
-use Prim.Native.Nat.{ℕ, _<_}
+use Prim.Native.Nat.{ℕ}
 use Rattle.letters.specs.Held.{heldAt}
 use Rattle.letters.proofs.HeldLaws.{held-none, held-some}
 use Rattle.letters.proofs.held_at.Statement.{statement}

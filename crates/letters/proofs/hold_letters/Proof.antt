@@ -1,11 +1,10 @@
 -- `letters::hold_letters` meets its contract. The invariant: what is found behind the head is what is held, or else what is found from `at` on.
 -- Assumes nothing.
-use mathlib.Core.Path.{_≡_, refl, sym, ap, _∙_}
-use Prim.Native.Nat.{ℕ, _+_, _-_, _≤_, _<_}
+use mathlib.Core.Path.{_≡_, refl, sym, _∙_}
+use Prim.Native.Nat.{_-_}
 use native.Mathlib.Omega.{arith}
 use lib.ListN.{length}
 use borrow.Author.Needs.{needs}
-use Rattle.records.specs.Versions.{headLength}
 use Rattle.records.proofs.VersionLaws.{head-length-low}
 use Rattle.records.proofs.WalkLaws.{walk-part, skim-at, skim-end}
 use Rattle.heads.proofs.FindLaws.{short, walkable}

@@ -1,12 +1,11 @@
 -- `letters::letter_rows` meets its contract. The invariant: the rows passed start one after another, and `at` is where the next one does.
 -- Assumes nothing.
-use mathlib.Core.Path.{_≡_, refl, sym, ap, _∙_}
+use mathlib.Core.Path.{_≡_, refl, _∙_}
 use Prim.Native.Nat.{ℕ, _+_, _-_, _*_, _≤_, _<_}
 use native.Mathlib.Omega.{arith}
 use native.Mathlib.Nat.{zero-mul, mul-le-mul-right}
 use lib.ListN.{length, getD, length-set}
-use borrow.Author.Needs.{needs}
-use Rattle.join.proofs.Rows.{set-next, row-next}
+use Rattle.blocks.proofs.Rows.{set-next, row-next}
 use Rattle.letters.proofs.letter_rows.Statement.{statement}
 use Rattle.letters.proofs.letter_rows.Tie as tie
 

@@ -1,6 +1,5 @@
 -- `letters::note` meets its contract.
 -- Assumes nothing.
-use mathlib.Core.Path.{_≡_}
 use native.Mathlib.Omega.{arith}
 use borrow.Author.Needs.{needs}
 use Rattle.letters.proofs.HeldLaws.{not-live, live-not, note-free, note-large, note-again, note-new}

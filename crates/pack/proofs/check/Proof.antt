@@ -1,9 +1,7 @@
 -- `pack::check` meets its contract.
 -- Assumes nothing.
-use mathlib.Core.Path.{_≡_, refl, sym, ap, _∙_, subst}
-use native.Mathlib.Omega.{arith}
+use mathlib.Core.Path.{sym, _∙_}
 use borrow.Author.Needs.{needs}
-use Rattle.heads.proofs.OpenLaws.{told}
 use Rattle.pack.proofs.CallLaws.{check-accepted, check-damaged}
 use Rattle.pack.proofs.check.Statement.{statement}
 use Rattle.pack.proofs.check.Tie as tie

@@ -1,7 +1,6 @@
 -- `pack::compact` meets its contract.
 -- Assumes nothing.
-use mathlib.Core.Path.{_≡_, refl, sym, ap, _∙_, subst}
-use native.Mathlib.Omega.{arith}
+use mathlib.Core.Path.{sym, _∙_}
 use borrow.Author.Needs.{needs}
 use Rattle.heads.proofs.OpenLaws.{told}
 use Rattle.heads.proofs.FindLaws.{walkable}

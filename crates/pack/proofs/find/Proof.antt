@@ -1,7 +1,6 @@
 -- `pack::find` meets its contract.
 -- Assumes nothing.
-use mathlib.Core.Path.{_≡_, refl, sym, ap, _∙_, subst}
-use native.Mathlib.Omega.{arith}
+use mathlib.Core.Path.{sym, _∙_}
 use borrow.Author.Needs.{needs}
 use Rattle.pack.proofs.CallLaws.{find-rows-at, find-refused}
 use Rattle.pack.proofs.find.Statement.{statement}

@@ -1,6 +1,6 @@
 -- `pack::is_good_letter` meets its contract.
 -- Assumes nothing.
-use mathlib.Core.Path.{_≡_, refl, sym, ap, _∙_, subst}
+use mathlib.Core.Path.{_∙_}
 use native.Mathlib.Omega.{arith}
 use borrow.Author.Needs.{needs}
 use Rattle.pack.proofs.CallLaws.{letter-code, letter-wide, letter-short, letter-rows, letter-small}

@@ -7,7 +7,7 @@ use native.Mathlib.Omega.{arith}
 use lib.ListN.{length, getD, length-set}
 use borrow.Author.Needs.{needs}
 use Rattle.lines.specs.Lines.{lineEnd, nextStart, after}
-use Rattle.join.proofs.Rows.{set-next}
+use Rattle.blocks.proofs.Rows.{set-next}
 use Rattle.lines.proofs.PlaceLaws.{after-next, end-within, next-within}
 use Rattle.source.proofs.find_rows.Statement.{statement}
 use Rattle.source.proofs.find_rows.Tie as tie

@@ -1,6 +1,5 @@
 -- `source::show_entry` meets its contract.
 -- Assumes nothing.
-use native.Mathlib.Omega.{arith}
 use borrow.Author.Needs.{needs}
 use Rattle.source.proofs.CharacterLaws.{shown-as}
 use Rattle.source.proofs.show_entry.Statement.{statement}

@@ -1,7 +1,6 @@
 -- `twofonts::draw_tested` meets its contract.
 -- Assumes nothing.
 use mathlib.Core.Path.{sym, subst}
-use native.Mathlib.Omega.{arith}
 use lib.ListN.{length}
 use Rattle.drawing.specs.Drawing.{Lined, PutOut}
 use Rattle.twofonts.proofs.FontsLaws.{scratch-small, scratch-enough}

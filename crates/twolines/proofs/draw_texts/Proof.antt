@@ -1,8 +1,7 @@
 -- `twolines::draw_texts` meets its contract.
 -- Assumes nothing.
-use mathlib.Core.Path.{_≡_, sym, _∙_, ap₂, subst}
+use mathlib.Core.Path.{sym, _∙_, ap₂}
 use native.Mathlib.Omega.{arith}
-use lib.ListN.{length}
 use borrow.Author.Needs.{needs}
 use Rattle.subchars.specs.declared.Mode.{Mode}
 use Rattle.subchars.specs.declared.VerticalLayout.{VerticalLayout}
@@ -10,7 +9,7 @@ use Rattle.source.specs.Source.{fontSource}
 use Rattle.source.proofs.CharacterLaws.{given-high, font-gives}
 use Rattle.drawing.specs.Drawing.{textCodes, linedText}
 use Rattle.drawing.proofs.DrawingLaws.{as-many}
-use Rattle.twolines.specs.TwoLines.{TwoLines, closedUp}
+use Rattle.twolines.specs.TwoLines.{closedUp}
 use Rattle.twolines.proofs.LinesLaws.{lines-as, upper-long, lower-long, both-lined}
 use Rattle.twolines.proofs.draw_texts.Statement.{statement}
 use Rattle.twolines.proofs.draw_texts.Tie as tie

@@ -8,7 +8,7 @@ use lib.ListN.{length, take, drop, length-drop}
 use lib.Seq.{length-take-le}
 use borrow.Author.Needs.{needs}
 use Rattle.ground.specs.Limits.{maxLineWidth, minScratch}
-use Rattle.stack.specs.Placing.{PlacedIn}
+use Rattle.columns.specs.Placing.{PlacedIn}
 use Rattle.drawing.specs.Steps.{TextDrawn}
 use Rattle.ground.proofs.Halves.{part-behind}
 use Rattle.twolines.proofs.OutputLaws.{placed-in, upper-wide, lower-wide, both-put}

@@ -1,6 +1,6 @@
 -- `twolines::with_counts` meets its contract: by cases of the answer.
 -- Assumes nothing.
-use mathlib.Core.Path.{refl, sym, ap}
+use mathlib.Core.Path.{sym, ap}
 use borrow.Author.Needs.{needs}
 use Rattle.twolines.specs.Steps.{countsBeside}
 use Rattle.twolines.proofs.with_counts.Statement.{statement}

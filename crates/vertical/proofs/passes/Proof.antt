@@ -3,7 +3,7 @@
 use mathlib.Core.Path.{sym, _∙_, ap}
 use borrow.Author.Needs.{needs}
 use Rattle.vertical.specs.declared.PairTest.{PairTest}
-use Rattle.vertical.specs.VerticalPair.{passing}
+use Rattle.vertical.specs.VerticalPair.{passesBy}
 use Rattle.vertical.proofs.passes.Statement.{statement}
 use Rattle.vertical.proofs.passes.Tie as tie
 
@@ -20,10 +20,10 @@ is-barred-requires : tie.Need-is-barred-requires
 is-barred-requires c κs = search needs
 
 returns : tie.Need-returns
-returns c = let a = c .before .before .before .before .args in c .can-merge .ensures ∙ sym (ap (λ (t : PairTest). passing t (a .u .0) (a .l .0)) (c .before .before .test .given .1))
+returns c = let a = c .before .before .before .before .args in c .can-merge .ensures ∙ sym (ap (λ (t : PairTest). passesBy t (a .u .0) (a .l .0)) (c .before .before .test .given .1))
 
 returns-2 : tie.Need-returns-2
-returns-2 c = let a = c .before .before .before .args in c .is-barred .ensures ∙ sym (ap (λ (t : PairTest). passing t (a .u .0) (a .l .0)) (c .before .enum-told .given .1))
+returns-2 c = let a = c .before .before .before .args in c .is-barred .ensures ∙ sym (ap (λ (t : PairTest). passesBy t (a .u .0) (a .l .0)) (c .before .enum-told .given .1))
 
 pub passes-spec : {M : Type 1} → statement M
 passes-spec =

@@ -1,7 +1,7 @@
 -- `wrapping::wrap_files` meets its contract.
 -- Assumes nothing.
 use borrow.Author.Needs.{needs}
-use Rattle.drawing.proofs.HeldLaws.{held-as}
+use Rattle.bothfiles.proofs.HeldLaws.{held-as}
 use Rattle.wrapping.proofs.OrderLaws.{out-as, files-refused}
 use Rattle.wrapping.proofs.wrap_files.Statement.{statement}
 use Rattle.wrapping.proofs.wrap_files.Tie as tie

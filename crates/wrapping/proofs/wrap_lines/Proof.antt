@@ -1,12 +1,11 @@
 -- `wrapping::wrap_lines` meets its contract.
 -- Assumes nothing.
 use mathlib.Core.Path.{sym, ap}
-use mathlib.Core.List.{List}
-use Prim.Native.Nat.{ℕ}
 use lib.ListN.{length}
 use borrow.Author.Needs.{needs}
-use Rattle.breaks.specs.Breaking.{Span, spansOf}
-use Rattle.wrapping.specs.Wrapping.{lineBy, wideIn, drawings, wrapLines}
+use Rattle.breaks.specs.Breaking.{spansOf}
+use Rattle.spans.specs.Spans.{lineBy, wideIn, drawings}
+use Rattle.wrapping.specs.Wrapping.{wrapLines}
 use Rattle.wrapping.proofs.OrderLaws.{out-as, out-rooms, put-room}
 use Rattle.wrapping.proofs.wrap_lines.Statement.{statement}
 use Rattle.wrapping.proofs.wrap_lines.Tie as tie

@@ -1,6 +1,6 @@
 -- `wrapping::wrap_read` meets its contract.
 -- Assumes nothing.
-use mathlib.Core.Path.{refl, sym, ap, _∙_}
+use mathlib.Core.Path.{sym, ap, _∙_}
 use borrow.Author.Needs.{needs}
 use Rattle.subchars.specs.declared.Mode.{Mode}
 use Rattle.source.specs.Source.{fontSource}

@@ -6,7 +6,7 @@ use native.Mathlib.Omega.{arith}
 use borrow.Author.Needs.{needs}
 use Rattle.ground.specs.Refusals.{refusal, characterTooWide}
 use Rattle.wrapping.specs.Wrapping.{unwrapped}
-use Rattle.wrapping.proofs.DrawnLaws.{none-wider}
+use Rattle.spans.proofs.DrawnLaws.{none-wider}
 use Rattle.wrapping.proofs.OrderLaws.{out-as, text-wider, text-fits}
 use Rattle.wrapping.proofs.wrap_text.Statement.{statement}
 use Rattle.wrapping.proofs.wrap_text.Tie as tie

@@ -8,7 +8,7 @@ use mir.Val.{toZ, ofZ}
 use borrow.Author.Needs.{needs}
 use Rattle.records.specs.Codes.{bitsOf}
 use Rattle.heads.specs.Pack.{meaning}
-use Rattle.pack.specs.Calls.{tells, after, insertion}
+use Rattle.pack.specs.Calls.{tells, bytesAfter, insertion}
 use Rattle.answers.specs.Numbers.{editNumber}
 use Rattle.answers.specs.Fits.{EditFits}
 use Rattle.capi.proofs.PackBounds.{put-fits}
@@ -29,7 +29,7 @@ returns c =
     let a = c .before .before .before .before .before .before .before .args in
     let q : toZ w32 (ofZ w32 (a .code)) ≡ a .code = search needs in
     let e = c .before .before .before .pack-put .ensures in
-    (c .edit-number .ensures ∙ ap editNumber (e .answer ∙ ap (λ (z : ℤ). tells (insertion (meaning (a .pack .now)) (length (a .pack .now)) (bitsOf z) (a .width) (a .rows .now))) q), e .bytes ∙ ap (λ (z : ℤ). after (a .pack .now) (insertion (meaning (a .pack .now)) (length (a .pack .now)) (bitsOf z) (a .width) (a .rows .now))) q)
+    (c .edit-number .ensures ∙ ap editNumber (e .answer ∙ ap (λ (z : ℤ). tells (insertion (meaning (a .pack .now)) (length (a .pack .now)) (bitsOf z) (a .width) (a .rows .now))) q), e .bytes ∙ ap (λ (z : ℤ). bytesAfter (a .pack .now) (insertion (meaning (a .pack .now)) (length (a .pack .now)) (bitsOf z) (a .width) (a .rows .now))) q)
 
 pub wattleslate-pack-put-spec : {M : Type 1} → statement M
 wattleslate-pack-put-spec =

@@ -7,7 +7,7 @@ use mir.Val.{toZ, ofZ}
 use borrow.Author.Needs.{needs}
 use Rattle.records.specs.Codes.{bitsOf}
 use Rattle.heads.specs.Pack.{meaning}
-use Rattle.pack.specs.Calls.{tells, after, removal}
+use Rattle.pack.specs.Calls.{tells, bytesAfter, removal}
 use Rattle.answers.specs.Numbers.{editNumber}
 use Rattle.answers.specs.Fits.{EditFits}
 use Rattle.capi.proofs.PackBounds.{remove-fits}
@@ -28,7 +28,7 @@ returns c =
     let a = c .before .before .before .before .before .before .args in
     let q : toZ w32 (ofZ w32 (a .code)) ≡ a .code = search needs in
     let e = c .before .before .before .pack-remove .ensures in
-    (c .edit-number .ensures ∙ ap editNumber (e .answer ∙ ap (λ (z : ℤ). tells (removal (meaning (a .pack .now)) (bitsOf z))) q), e .bytes ∙ ap (λ (z : ℤ). after (a .pack .now) (removal (meaning (a .pack .now)) (bitsOf z))) q)
+    (c .edit-number .ensures ∙ ap editNumber (e .answer ∙ ap (λ (z : ℤ). tells (removal (meaning (a .pack .now)) (bitsOf z))) q), e .bytes ∙ ap (λ (z : ℤ). bytesAfter (a .pack .now) (removal (meaning (a .pack .now)) (bitsOf z))) q)
 
 pub wattleslate-pack-remove-spec : {M : Type 1} → statement M
 wattleslate-pack-remove-spec =

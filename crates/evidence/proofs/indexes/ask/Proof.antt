@@ -2,7 +2,7 @@
 -- lifetime of the call of `find_in`, and taken back; then an entry of the whole is read. All that the proof knows of the calls is that they meet their contracts.
 -- Assumes nothing.
 use mathlib.Core.Path.{_≡_, refl, sym, _∙_, ap, subst}
-use Prim.Native.Nat.{ℕ, _+_, _*_, _≤_, _<_, _^_}
+use Prim.Native.Nat.{ℕ, _*_, _≤_, _<_, _^_}
 use native.Mathlib.Omega.{arith}
 use mathlib.Core.List.{[], _∷_, List, _++_}
 use lib.Dec.{T}
@@ -63,16 +63,16 @@ use Rattle.reader.specs.declared.FontAnswer.{FontAnswer}
 use Rattle.entries.specs.Filling.{zeroEntry}
 use Rattle.reader.proofs.FontAnswer as F
 use Rattle.reader.proofs.FontAnswer.Laws as F′
-use Rattle.entries.proofs.Row.{R, val, vals, tells, place-24, makes, typed}
+use Rattle.finding.proofs.Row.{R, val, vals, tells, place-24, makes, typed}
 use Rattle.entries.proofs.Local.{lies-row, row-room}
 use Rattle.entries.proofs.read_font as read-font
 use Rattle.entries.proofs.read_font.Symbol as read-font-def
 use Rattle.entries.proofs.read_font.Symbol.{name as #entries·read-font}
 use Rattle.entries.proofs.read_font.Met as read-font-thm
-use Rattle.entries.proofs.find_in as find-in
-use Rattle.entries.proofs.find_in.Symbol as find-in-def
-use Rattle.entries.proofs.find_in.Symbol.{name as #entries·find-in}
-use Rattle.entries.proofs.find_in.Met as find-in-thm
+use Rattle.finding.proofs.find_in as find-in
+use Rattle.finding.proofs.find_in.Symbol as find-in-def
+use Rattle.finding.proofs.find_in.Symbol.{name as #finding·find-in}
+use Rattle.finding.proofs.find_in.Met as find-in-thm
 use Rattle.evidence.specs.declared.indexes.Asked.{Asked}
 use Rattle.evidence.proofs.Cut.{behind, cut, glue}
 use Rattle.evidence.proofs.indexes.Asked as D
@@ -241,7 +241,7 @@ module _ {M : Type 1} (𝓤 : URA M) (H : Heap 𝓤) (A : Atoms 𝓤) (W : Given
         nothing ! $ owned ! K.the-row (Is K.the-row) (SL.makes K.the-type K′.the-plain 𝓤 H A) c _ is-c $ fjoin ! $ owned ! usize (Is usize) (uint-makes 𝓤 H A W w64) count _ (refl, gc) $ fjoin ! $
         move ! (2 ∷ 0 ∷ []) $ fjoin ! $ move ! (1 ∷ 0 ∷ []) $ join ! $ frame ! $ done !
 
-  module _ (C : Calls 𝓤 H) (Λ : Loops 𝓤 H) (fm : FmC 𝓤 H (W .laws) C) (known-nines : Triple 𝓤 (C #evidence·nines) (Nines 𝓤 H A mem run)) (known-read : Triple 𝓤 (C #entries·read-font) (ReadFont 𝓤 H A mem run)) (known-find : Triple 𝓤 (C #entries·find-in) (FindIn 𝓤 H A mem run))
+  module _ (C : Calls 𝓤 H) (Λ : Loops 𝓤 H) (fm : FmC 𝓤 H (W .laws) C) (known-nines : Triple 𝓤 (C #evidence·nines) (Nines 𝓤 H A mem run)) (known-read : Triple 𝓤 (C #entries·read-font) (ReadFont 𝓤 H A mem run)) (known-find : Triple 𝓤 (C #finding·find-in) (FindIn 𝓤 H A mem run))
       (small : size ≤ 600) (inside : place < 600) where
     part-length : (d : List Entry) {u : Val} → Is (Array R 600) d (u ∷ []) → length (take size d) ≡ size
     part-length d g = length-take-le size d (omega (arith, g .1 .0 .1))
@@ -337,7 +337,7 @@ module _ {M : Type 1} (𝓤 : URA M) (H : Heap 𝓤) (A : Atoms 𝓤) (W : Given
     walk wt = subst (λ (f : Fn). ent 𝓤 (onEntry 𝓤 H A ask.signature (κ, tt) (q, tt) x at) (WpFn 𝓤 H C Λ f (vf ∷ vint w64 size ∷ vint w64 count ∷ vc ∷ vint w64 place ∷ []) Post)) same-fn (walk-in wt)
 
 module _ {M : Type 1} (𝓤 : URA M) (H : Heap 𝓤) (A : Atoms 𝓤) (W : Given 𝓤 H A) (mem : Memory → SProp 𝓤) (run : Routine → Fun 𝓤) (𝓣 : Tables 𝓤 H) (known-nines : Triple 𝓤 (𝓣 .C #evidence·nines) (Nines 𝓤 H A mem run))
-    (known-read : Triple 𝓤 (𝓣 .C #entries·read-font) (ReadFont 𝓤 H A mem run)) (known-find : Triple 𝓤 (𝓣 .C #entries·find-in) (FindIn 𝓤 H A mem run)) where
+    (known-read : Triple 𝓤 (𝓣 .C #entries·read-font) (ReadFont 𝓤 H A mem run)) (known-find : Triple 𝓤 (𝓣 .C #finding·find-in) (FindIn 𝓤 H A mem run)) where
   ask-walks : Walks 𝓤 H A ask.ended stayed (WpFn 𝓤 H (𝓣 .C) (𝓣 .Λ) code.function) (ask.clauses 𝓤 H A mem run)
   ask-walks = walked 𝓤 H A ask.ended stayed (ask.clauses 𝓤 H A mem run) (WpFn 𝓤 H (𝓣 .C) (𝓣 .Λ) code.function)
       (λ κs. (slice-vals, (uint-vals w64, (uint-vals w64, (SL.vals K.the-type K′.the-laws, (uint-vals w64, tt)))))) (λ κs. (shr-slice-tells (named 0) (κs .0) u8, (uint-tells w64, (uint-tells w64, (SL.tells K.the-type K′.the-laws, (uint-tells w64, tt))))))
@@ -359,4 +359,4 @@ ask-spec 𝓤 H 𝓜 𝓖 𝓡 =
     (ask-meets 𝓤 H (𝓖 .A) (givenOf 𝓤 H 𝓜 𝓖) (𝓜 .mem) (𝓡 .run) (tablesOf 𝓤 H 𝓜 (tables 𝓤 H 𝓜 𝓡 code.env))
     (cited 𝓤 H (Nines 𝓤 H (𝓖 .A) (𝓜 .mem) (𝓡 .run)) 𝓜 𝓡 code.env #evidence·nines nines-def.routine code.calls-evidence·indexes·nines (nines-thm.met 𝓤 H 𝓜 𝓖 𝓡))
     (cited 𝓤 H (ReadFont 𝓤 H (𝓖 .A) (𝓜 .mem) (𝓡 .run)) 𝓜 𝓡 code.env #entries·read-font read-font-def.routine code.calls-entries·read-font (read-font-thm.met 𝓤 H 𝓜 𝓖 𝓡))
-    (cited 𝓤 H (FindIn 𝓤 H (𝓖 .A) (𝓜 .mem) (𝓡 .run)) 𝓜 𝓡 code.env #entries·find-in find-in-def.routine code.calls-entries·find-in (find-in-thm.met 𝓤 H 𝓜 𝓖 𝓡)))
+    (cited 𝓤 H (FindIn 𝓤 H (𝓖 .A) (𝓜 .mem) (𝓡 .run)) 𝓜 𝓡 code.env #finding·find-in find-in-def.routine code.calls-finding·find-in (find-in-thm.met 𝓤 H 𝓜 𝓖 𝓡)))

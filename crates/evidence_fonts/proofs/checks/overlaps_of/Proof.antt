@@ -1,7 +1,6 @@
 -- `evidence_fonts::checks::overlaps_of` is safe and ends.
 -- Assumes nothing.
 use Prim.Native.Nat.{_-_}
-use native.Mathlib.Omega.{arith}
 use borrow.Author.Needs.{needs}
 use Rattle.evidence_fonts.proofs.checks.overlaps_of.Statement.{statement}
 use Rattle.evidence_fonts.proofs.checks.overlaps_of.Tie as tie

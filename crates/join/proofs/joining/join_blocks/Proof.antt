@@ -5,11 +5,11 @@ use Prim.Native.Nat.{ℕ, _≤_, _-_, _+_, min}
 use native.Mathlib.Omega.{arith}
 use lib.ListN.{length}
 use borrow.Author.Needs.{needs}
-use Rattle.join.proofs.Demand.{overlap-narrower}
-use Rattle.join.proofs.GoodShape.{small}
-use Rattle.join.proofs.Likeness.{overlap-like}
-use Rattle.join.proofs.Rows.{inside, rows-seen}
-use Rattle.join.specs.Join.{Block, exactBlock, overlap}
+use Rattle.overlap.proofs.Demand.{overlap-narrower}
+use Rattle.overlap.proofs.Likeness.{overlap-like}
+use Rattle.blocks.proofs.Rows.{inside, rows-seen, small}
+use Rattle.blocks.specs.Block.{Block, exactBlock}
+use Rattle.overlap.specs.Join.{overlap}
 use Rattle.join.proofs.JoinCases.{too-wide, no-room, done}
 use Rattle.join.proofs.joining.join_blocks.Statement.{statement}
 use Rattle.join.proofs.joining.join_blocks.Tie as tie

@@ -20,7 +20,7 @@ use Rattle.records.proofs.CodeLaws.{code-fits}
 use Rattle.records.proofs.VersionLaws.{head-length-low}
 use Rattle.heads.specs.Pack.{headIn}
 use Rattle.heads.proofs.FindLaws.{inside}
-use Rattle.letters.specs.Held.{orElse}
+use Rattle.letters.specs.Held.{orElsePlace}
 use Rattle.source.specs.Source.{Choice, Source}
 use Rattle.source.specs.Held.{PackGives}
 use Rattle.source.specs.Steps.{ChosenAs, PlaceIn, letterChoice}
@@ -36,17 +36,17 @@ module _ (source : Source) (s : List ℕ) (height : ℕ) (starts widths : List �
   abbrev Its : Place → Type 0
   Its x = x ≡ placeIn f (bitsOf (c .0)) (headLength (f .version)) (g .records)
 
-  place-in : (x y : Place) → Its x → y ≡ orElse x z → PlaceIn f s y
+  place-in : (x y : Place) → Its x → y ≡ orElsePlace x z → PlaceIn f s y
   place-in x y q p = subst (PlaceIn f s) (sym p) (go x q)
     where
-      go : (x : Place) → Its x → PlaceIn f s (orElse x z)
+      go : (x : Place) → Its x → PlaceIn f s (orElsePlace x z)
       go (At a w) q = found-in source s height starts widths g f e (bitsOf (c .0)) (At a w) q
       go Nowhere q = found-in source s height starts widths g f e (bitsOf (pos 0)) z refl
 
-  choice : isCode (c .0) ≡ true → (x y : Place) → Its x → y ≡ orElse x z → (own : Bool) → own ≡ isPlace x → letterChoice f s own y ≡ source c
+  choice : isCode (c .0) ≡ true → (x y : Place) → Its x → y ≡ orElsePlace x z → (own : Bool) → own ≡ isPlace x → letterChoice f s own y ≡ source c
   choice i x y q p own o = ap₂ (letterChoice f s) o p ∙ go x q
     where
-      go : (x : Place) → Its x → letterChoice f s (isPlace x) (orElse x z) ≡ source c
+      go : (x : Place) → Its x → letterChoice f s (isPlace x) (orElsePlace x z) ≡ source c
       go (At a w) q = own-choice source s height starts widths g f e c i (At a w) q refl
       go Nowhere q = other-choice source s height starts widths g f e c i Nowhere q z refl refl
 

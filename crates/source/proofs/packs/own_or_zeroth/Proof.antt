@@ -6,16 +6,16 @@ use borrow.Author.Needs.{needs}
 use Rattle.records.specs.declared.Place.{Place}
 use Rattle.records.specs.declared.Place.the-variants.{At, Nowhere}
 use Rattle.records.specs.Places.{isPlace}
-use Rattle.letters.specs.Held.{orElse}
+use Rattle.letters.specs.Held.{orElsePlace}
 use Rattle.source.proofs.packs.own_or_zeroth.Statement.{statement}
 use Rattle.source.proofs.packs.own_or_zeroth.Tie as tie
 
 -- The first of two places, where it is one, and the second, where it is none.
-first : (x z : Place) → isPlace x ≡ true → x ≡ orElse x z
+first : (x z : Place) → isPlace x ≡ true → x ≡ orElsePlace x z
 first (At p w) z e = refl
 first Nowhere z e = absurd (true≢false (sym e))
 
-second : (x z : Place) → isPlace x ≡ false → z ≡ orElse x z
+second : (x z : Place) → isPlace x ≡ false → z ≡ orElsePlace x z
 second (At p w) z e = absurd (true≢false e)
 second Nowhere z e = refl
 

@@ -1,9 +1,7 @@
 -- `source::packs::stands_in` meets its contract.
 -- Assumes nothing.
-use mathlib.Core.Path.{sym, ap, _∙_}
 use native.Mathlib.Omega.{arith}
 use borrow.Author.Needs.{needs}
-use Rattle.records.specs.Places.{isPlace}
 use Rattle.records.proofs.VersionLaws.{head-length-low}
 use Rattle.heads.proofs.FindLaws.{inside}
 use Rattle.source.proofs.PackLaws.{said, letters-held, zeroth-stands-in}

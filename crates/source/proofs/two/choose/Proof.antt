@@ -1,9 +1,9 @@
--- `source::two::choose` meets its contract.
+-- `fontlists::two::choose` meets its contract.
 -- Assumes nothing.
 use mathlib.Core.Path.{sym, _∙_, subst}
 use borrow.Author.Needs.{needs}
 use Rattle.source.specs.Source.{Choice}
-use Rattle.source.specs.Steps.{ChosenAs, PickedAs}
+use Rattle.source.specs.Steps.{PickedAs}
 use Rattle.source.proofs.TwoLaws.{found-stands, stood-in-stands, found-choice, stood-in-choice, nothing-choice}
 use Rattle.source.proofs.two.choose.Statement.{statement}
 use Rattle.source.proofs.two.choose.Tie as tie

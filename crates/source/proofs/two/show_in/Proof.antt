@@ -1,4 +1,4 @@
--- `source::two::show_in` meets its contract.
+-- `fontlists::two::show_in` meets its contract.
 -- Assumes nothing.
 use mathlib.Core.Path.{sym, subst}
 use mathlib.Core.List.{List}

@@ -1,4 +1,4 @@
--- `source::two::stands_in` meets its contract.
+-- `fontlists::two::stands_in` meets its contract.
 -- Assumes nothing.
 use mathlib.Core.Path.{sym, _∙_}
 use borrow.Author.Needs.{needs}

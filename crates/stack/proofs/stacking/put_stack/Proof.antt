@@ -1,16 +1,14 @@
 -- `stack::stacking::put_stack` meets its contract.
 -- Assumes nothing.
-use mathlib.Core.Path.{_≡_, _∙_}
-use Prim.Native.Nat.{ℕ, _≤_, _+_, _-_, _*_, min}
+use Prim.Native.Nat.{ℕ, _≤_, _+_, _-_, min}
 use native.Mathlib.Omega.{arith}
 use lib.ListN.{length}
 use borrow.Author.Needs.{needs}
 use Rattle.ground.specs.Limits.{maxLineWidth}
-use Rattle.join.specs.Join.{Block}
-use Rattle.join.proofs.GoodShape.{small}
-use Rattle.stack.specs.Stack.{stackOverlap}
-use Rattle.stack.specs.Placing.{placedBlock}
-use Rattle.stack.proofs.Demand.{overlap-smaller}
+use Rattle.blocks.specs.Block.{Block}
+use Rattle.blocks.proofs.Rows.{small}
+use Rattle.columns.specs.Placing.{placedBlock}
+use Rattle.columns.proofs.Demand.{overlap-smaller}
 use Rattle.stack.proofs.StackCases.{too-high, no-room, done}
 use Rattle.stack.proofs.stacking.put_stack.Statement.{statement}
 use Rattle.stack.proofs.stacking.put_stack.Tie as tie

@@ -5,9 +5,9 @@ use mathlib.Core.Path.{_≡_, sym, _∙_}
 use lib.ListN.{length}
 use borrow.Author.Needs.{needs}
 use borrow.Author.Tests.{not-true, not-false}
-use Rattle.join.specs.Join.{exactBlock}
-use Rattle.stack.specs.Stack.{stacked}
-use Rattle.stack.specs.Placing.{placedBlock, PlacedIn}
+use Rattle.blocks.specs.Block.{exactBlock}
+use Rattle.columns.specs.Stack.{stacked}
+use Rattle.columns.specs.Placing.{placedBlock}
 use Rattle.stack.specs.StackCall.{goodStack}
 use Rattle.stack.proofs.Likeness.{exact-like, stacked-like, put-like}
 use Rattle.stack.proofs.GoodStack.{exactly, both-placed}

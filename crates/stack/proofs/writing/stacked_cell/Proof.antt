@@ -1,11 +1,10 @@
 -- `stack::writing::stacked_cell` meets its contract.
 -- Assumes nothing.
 use mathlib.Core.Path.{_∙_, sym, ap₂}
-use native.Mathlib.Omega.{arith}
 use borrow.Author.Needs.{needs}
 use Rattle.vertical.specs.VerticalPair.{mergedByte}
-use Rattle.stack.specs.Placing.{placedBlock}
-use Rattle.stack.proofs.Cells.{upper-cell, merged-cell, lower-cell}
+use Rattle.columns.specs.Placing.{placedBlock}
+use Rattle.columns.proofs.Cells.{upper-cell, merged-cell, lower-cell}
 use Rattle.stack.proofs.writing.stacked_cell.Statement.{statement}
 use Rattle.stack.proofs.writing.stacked_cell.Tie as tie
 

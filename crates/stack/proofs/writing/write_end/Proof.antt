@@ -1,10 +1,10 @@
 -- `stack::writing::write_end` meets its contract.
 -- Assumes nothing.
 use mathlib.Core.Path.{_≡_, refl, sym, _∙_, ap}
-use mathlib.Core.List.{List, _++_}
+use mathlib.Core.List.{_++_}
 use Prim.Native.Nat.{ℕ, _+_}
 use native.Mathlib.Omega.{arith}
-use lib.ListN.{take, set, length-set}
+use lib.ListN.{take, set}
 use borrow.Author.Needs.{needs}
 use Rattle.ground.specs.Area.{values}
 use Rattle.ground.specs.Text.{byte}

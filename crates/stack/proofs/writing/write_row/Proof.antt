@@ -8,8 +8,8 @@ use lib.ListN.{length, take, length-set}
 use borrow.Author.Needs.{needs}
 use Rattle.ground.proofs.Areas.{put-none, put-next}
 use Rattle.ground.specs.Area.{values}
-use Rattle.stack.specs.Stack.{stackedAt}
-use Rattle.stack.specs.Placing.{placedBlock}
+use Rattle.columns.specs.Stack.{stackedAt}
+use Rattle.columns.specs.Placing.{placedBlock}
 use Rattle.stack.proofs.writing.write_row.Statement.{statement}
 use Rattle.stack.proofs.writing.write_row.Tie as tie
 

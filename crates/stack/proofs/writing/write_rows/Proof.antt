@@ -7,10 +7,10 @@ use native.Mathlib.Omega.{arith}
 use lib.ListN.{length, take}
 use borrow.Author.Needs.{needs}
 use Rattle.lanes.specs.Blocks.{Cells}
-use Rattle.join.specs.Join.{rowsOf}
-use Rattle.join.proofs.Rows.{rows-next, row-room, row-next}
-use Rattle.stack.specs.Stack.{stackedAt}
-use Rattle.stack.specs.Placing.{placedBlock, withEnd}
+use Rattle.blocks.specs.Block.{rowsOf}
+use Rattle.blocks.proofs.Rows.{rows-next, row-room, row-next}
+use Rattle.columns.specs.Stack.{stackedAt}
+use Rattle.columns.specs.Placing.{placedBlock, withEnd}
 use Rattle.stack.proofs.Ending.{row-written}
 use Rattle.stack.proofs.writing.write_rows.Statement.{statement}
 use Rattle.stack.proofs.writing.write_rows.Tie as tie

@@ -1,0 +1,2 @@
+-- The laws of both files.
+pub mod HeldLaws

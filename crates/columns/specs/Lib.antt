@@ -1,0 +1,3 @@
+-- The meaning of two blocks one above the other.
+pub mod Stack
+pub mod Placing

@@ -1,0 +1,3 @@
+-- The meaning of the calls about one control file.
+pub mod ControlCall
+pub mod MapCall

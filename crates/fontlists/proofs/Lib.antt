@@ -1,0 +1,3 @@
+-- The laws of fonts in lists.
+pub mod HeldLaws
+pub mod TwoLaws

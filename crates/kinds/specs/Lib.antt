@@ -1,0 +1,2 @@
+-- The meaning of the table of kinds.
+pub mod Kinds

@@ -1,0 +1,2 @@
+-- The laws of rows laid into an area.
+pub mod Laying

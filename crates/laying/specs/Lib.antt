@@ -1,0 +1,2 @@
+-- The meaning of rows laid into an area.
+pub mod Laying

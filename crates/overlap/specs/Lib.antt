@@ -1,0 +1,2 @@
+-- The meaning of the join of two blocks.
+pub mod Join

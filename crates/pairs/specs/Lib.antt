@@ -1,0 +1,3 @@
+-- The meaning of the pair decision.
+pub mod Pair
+pub mod Steps

@@ -1,0 +1,2 @@
+-- The laws of the output.
+pub mod Showing
