@@ -1,4 +1,6 @@
 // How an answer becomes one number of 64 bits: a refusal's number above its place, or 0 above what the answer tells.
+#![tactic(auto)]
+
 ghost use Rattle.std.specs.Prelude.{◌≡◌, ◌<◌, ◌*◌};
 ghost use Rattle.join.specs.JoinCall.{join_tells};
 ghost use Rattle.stack.specs.StackCall.{stack_tells};

@@ -1,4 +1,6 @@
 // What the programs that answer requests share: a request taken apart into its words and blocks, the file that it names, and what is printed.
+#![tactic(auto)]
+
 pub mod lent;
 pub mod printing;
 

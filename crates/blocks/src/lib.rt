@@ -1,4 +1,6 @@
 // Blocks whose rows lie one after another: where they start, and a part of one copied.
+#![tactic(auto)]
+
 ghost use Rattle.std.specs.Prelude.{◌≡◌, ◌++◌, ◌+◌, ◌≤◌, length, take};
 ghost use Rattle.ground.specs.Area.{values};
 ghost use Rattle.ground.specs.Limits.{max_font_length, max_height};

@@ -1,4 +1,6 @@
 // A font and a control file read once, for any number of texts, and a text drawn by them.
+#![tactic(auto)]
+
 ghost use Rattle.std.specs.Prelude.{◌≡◌, List, ℕ, ◌≤◌, length};
 ghost use Rattle.ground.specs.Limits.{max_characters, max_commands, min_scratch};
 ghost use Rattle.index.specs.Index.{CharacterRoom};

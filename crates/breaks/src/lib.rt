@@ -1,4 +1,6 @@
 // Words of a text: where one starts, where one ends, and where the last one ends.
+#![tactic(auto)]
+
 ghost use Rattle.std.specs.Prelude.{◌≡◌, cond, ◌≤◌, length};
 ghost use Rattle.breaks.specs.Words.{word_from, ends_word};
 ghost use Rattle.breaks.specs.Steps.{last_behind};

@@ -1,4 +1,6 @@
 // The calls for programs in C and Rust: byte slices and numbers in, one number out. Each is total, as the calls that it stands on.
+#![tactic(auto)]
+
 pub mod checks;
 pub mod fonts;
 pub mod packs;

@@ -1,4 +1,6 @@
 // The FIGcharacters of a font, one after another: the required codes, code tags, and the end of the file.
+#![tactic(auto)]
+
 ghost use Rattle.std.specs.Prelude.{◌≡◌, ◌<◌, get_or};
 ghost use Rattle.chars.specs.Codes.{required_codes, required_count, same_code, tag_of};
 ghost use Rattle.chars.specs.Steps.{listed_at, tag_at, blank_from, tagged_at, next_at};

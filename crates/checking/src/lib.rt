@@ -1,4 +1,6 @@
 // A FIGure and a list of overlaps of another program, compared with a line that was drawn.
+#![tactic(auto)]
+
 ghost use Rattle.std.specs.Prelude.{◌≡◌, List, [], ◌∷◌, ◌++◌, ℕ, ◌+◌, ◌-◌, ◌*◌, ◌<◌, ◌≤◌, ◌^◌, length};
 ghost use Rattle.ground.specs.Limits.{max_line_width, max_height, min_scratch};
 ghost use Rattle.blocks.specs.Block.{rows_of};

@@ -1,4 +1,6 @@
 // Two blocks one above the other, where a lane is a column: their overlap. Hardblanks are taken for blanks, and the narrower block has blanks on its right.
+#![tactic(auto)]
+
 pub mod overlaps;
 
 ghost use Rattle.std.specs.Prelude.{◌≡◌, ◌<◌};

@@ -1,4 +1,6 @@
 // The work of a program that draws: a font and a control file of the current folder are read once, and each line of standard input is drawn.
+#![tactic(auto)]
+
 mod files;
 mod input;
 mod printing;

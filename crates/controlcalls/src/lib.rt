@@ -1,4 +1,6 @@
 // The public calls about one control file: reading it into lent lists, and mapping a code. Crate wattleslate passes them on.
+#![tactic(auto)]
+
 ghost use Rattle.std.specs.Prelude.{◌≡◌};
 ghost use Rattle.flc.specs.Lists.{command_lists};
 ghost use Rattle.controlcalls.specs.ControlCall.{ControlRead};

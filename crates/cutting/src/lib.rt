@@ -1,4 +1,6 @@
 // Cuts input that arrives in parts into lines that end at LF, so that how a read splits the input does not matter.
+#![tactic(auto)]
+
 ghost use Rattle.std.specs.Prelude.{◌≡◌, ◌++◌, ◌≤◌, length, take};
 ghost use Rattle.ground.specs.Runs.{run};
 ghost use Rattle.cutting.specs.Cut.{not_lf};

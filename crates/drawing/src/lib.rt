@@ -1,4 +1,6 @@
 // Drawing a line of text from a source of characters, by a control file.
+#![tactic(auto)]
+
 ghost use Rattle.std.specs.Prelude.{◌≡◌, List, ℕ, ◌<◌, ◌≤◌, pos, length};
 ghost use Rattle.ground.specs.Limits.{max_line_width, max_height, min_scratch};
 ghost use Rattle.subchars.specs.declared.Code.{Code};

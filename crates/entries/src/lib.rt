@@ -1,4 +1,6 @@
 // The lent index as a slice of entries, filled: the one function that does it only moves whole entries; what is moved is decided below it.
+#![tactic(auto)]
+
 mod listing;
 
 ghost use Rattle.std.specs.Prelude.{◌≡◌, length};

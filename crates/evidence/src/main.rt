@@ -1,4 +1,6 @@
 // Answers requests on standard input about the files of its folder: fonts at both sides of every limit, and control files.
+#![tactic(auto)]
+
 mod controls;
 mod drawings;
 mod fonts;

@@ -1,5 +1,7 @@
 // Answers requests on standard input for drawings by two fonts and for their rows: which font a code is taken from, what stands in, whose layout counts, and the
 // refusals in their order; and for checks of another program's drawings.
+#![tactic(auto)]
+
 mod checks;
 mod drawings;
 mod parts;

@@ -1,5 +1,7 @@
 // Answers requests on standard input for stacks of two blocks and of two texts, for texts in lines, and for packs: every rule, both sides of each limit, and the
 // refusals in their order.
+#![tactic(auto)]
+
 mod stacks;
 mod texts;
 mod wraps;

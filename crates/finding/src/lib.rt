@@ -1,4 +1,6 @@
 // The lent index as a slice of entries, read: the one function that does it only takes whole entries; what becomes of them is decided below it.
+#![tactic(auto)]
+
 mod seen;
 
 ghost use Rattle.std.specs.Prelude.{◌≡◌};

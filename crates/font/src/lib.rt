@@ -1,4 +1,6 @@
 // The start of a FIGfont: its size, its header line and its comment lines.
+#![tactic(auto)]
+
 ghost use Rattle.std.specs.Prelude.{◌≡◌};
 ghost use Rattle.font.specs.Steps.{past_comments, first_line, open_at};
 

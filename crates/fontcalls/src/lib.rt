@@ -1,4 +1,6 @@
 // The public calls that ask one font: a look-up, and a row as a part of the font. Crate wattleslate passes them on.
+#![tactic(auto)]
+
 ghost use Rattle.std.specs.Prelude.{◌≡◌};
 ghost use Rattle.request.specs.Request.{row_request};
 ghost use Rattle.fontcalls.specs.LookUpCall.{look_up_tells, look_up_told};

@@ -1,4 +1,6 @@
 // Fonts in lists of numbers: one read into them, with the last places of its small codes, and a code looked up in two.
+#![tactic(auto)]
+
 pub mod two;
 
 ghost use Rattle.std.specs.Prelude.{◌≡◌, length};

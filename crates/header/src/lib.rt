@@ -1,4 +1,6 @@
 // The header line of a FIGfont: its hardblank and its parameters, or the refusal of the line.
+#![tactic(auto)]
+
 mod reading;
 
 ghost use Rattle.std.specs.Prelude.{◌≡◌};

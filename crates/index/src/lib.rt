@@ -1,4 +1,6 @@
 // The index of a font's characters in three lists of numbers, and look-up in it.
+#![tactic(auto)]
+
 pub mod latest;
 
 ghost use Rattle.std.specs.Prelude.{◌≡◌};

@@ -1,4 +1,6 @@
 // Which rules join a pair, by the kinds of its two sub-characters.
+#![tactic(auto)]
+
 ghost use Rattle.std.specs.Prelude.{◌≡◌, ◌<◌, get_or};
 ghost use Rattle.subchars.specs.Hardblank.{blank};
 ghost use Rattle.kinds.specs.Kinds.{kind_of, rule_entry, rules_joining};

@@ -1,4 +1,6 @@
 // The rows of a FIGcharacter laid into a line's area: on the line's, and beside them.
+#![tactic(auto)]
+
 ghost use Rattle.std.specs.Prelude.{◌≡◌, true, cond, ℕ, ◌+◌, ◌*◌, ◌-◌, ◌<◌, ◌≤◌, length, get_or, set};
 ghost use Rattle.ground.specs.Limits.{max_line_width, max_height, min_scratch};
 ghost use Rattle.blocks.specs.Writing.{from_on, Stored};

@@ -1,4 +1,6 @@
 // The letters of a pack, found by their codes: those of a text's bytes by one look into two lists, the others by a walk over the records' heads.
+#![tactic(auto)]
+
 ghost use Rattle.std.specs.Prelude.{◌≡◌, List, ℕ, ◌+◌, ◌*◌, ◌<◌, ◌≤◌, length, get_or};
 ghost use Rattle.ground.specs.Limits.{max_height, max_pack_length};
 ghost use Rattle.index.specs.Latest.{small_codes};

@@ -1,4 +1,6 @@
 // The overlap of two blocks side by side, above the overlaps of crate lanes and the pair decision of crate pairs.
+#![tactic(auto)]
+
 ghost use Rattle.std.specs.Prelude.{◌≡◌, true, ℕ, ◌+◌, ◌*◌, ◌<◌, ◌≤◌, length};
 ghost use Rattle.ground.specs.Limits.{max_font_length};
 ghost use Rattle.pairs.specs.Pair.{joins};

@@ -1,4 +1,6 @@
 // The calls on a font pack in a lent buffer: check, find, put, remove, compact.
+#![tactic(auto)]
+
 ghost use Rattle.std.specs.Prelude.{◌≡◌, ◌≤◌, length};
 ghost use Rattle.ground.specs.Limits.{max_height};
 ghost use Rattle.records.specs.Codes.{bits_of};

@@ -1,4 +1,6 @@
 // The pair decision: what a pair of facing sub-characters becomes, and by which rule.
+#![tactic(auto)]
+
 ghost use Rattle.std.specs.Prelude.{◌≡◌, true};
 ghost use Rattle.subchars.specs.Hardblank.{blank};
 ghost use Rattle.pairs.specs.Pair.{controlled, later, universal, smushed, joint, is_joined, joins, byte_of};

@@ -1,4 +1,6 @@
 // A font read into three lists of numbers, and the character that is used for a code.
+#![tactic(auto)]
+
 ghost use Rattle.std.specs.Prelude.{◌≡◌, List, length, take};
 ghost use Rattle.ground.specs.Limits.{max_characters};
 ghost use Rattle.chars.specs.declared.Entry.{Entry};

@@ -1,4 +1,6 @@
 // The records of a pack: one at the start of a part of the pack, and what is found among them.
+#![tactic(auto)]
+
 ghost use Rattle.std.specs.Prelude.{◌≡◌, true, cond, ◌&&◌, ◌+◌, ◌≤◌, ◌<◌, length, drop};
 ghost use Rattle.ground.specs.Limits.{max_height};
 ghost use Rattle.ground.specs.Runs.{all};

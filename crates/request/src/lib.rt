@@ -1,4 +1,6 @@
 // The character that a font has for a code, and the row request: where a row of it stands in the font.
+#![tactic(auto)]
+
 ghost use Rattle.std.specs.Prelude.{◌≡◌};
 ghost use Rattle.font.specs.Font.{reading};
 ghost use Rattle.request.specs.Request.{sought, bad_request, row_request};

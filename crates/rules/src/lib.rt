@@ -1,4 +1,6 @@
 // The rules of controlled smushing, and what the one that joins a pair makes of it.
+#![tactic(auto)]
+
 ghost use Rattle.std.specs.Prelude.{◌≡◌, ℕ};
 ghost use Rattle.std.proofs.Math.Option.{some};
 ghost use Rattle.rules.specs.Rules.{by_rule, rule_number};

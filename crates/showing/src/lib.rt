@@ -1,4 +1,6 @@
 // A line put out: its rows, each with LF behind it, or a refusal.
+#![tactic(auto)]
+
 ghost use Rattle.std.specs.Prelude.{◌≡◌, ◌++◌, ℕ, ◌+◌, ◌*◌, ◌≤◌, length, take};
 ghost use Rattle.ground.specs.Area.{values, zeros, padded};
 ghost use Rattle.ground.specs.Limits.{max_line_width, max_height, min_scratch};

@@ -1,4 +1,6 @@
 // Where the characters of a drawing come from, a font, two fonts or a pack that were read into lists, and the character that they have for a code.
+#![tactic(auto)]
+
 pub mod packs;
 mod two;
 

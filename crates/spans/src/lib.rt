@@ -1,4 +1,6 @@
 // The lines of a text: each is sought by drawing it, kept where it may end, and put out.
+#![tactic(auto)]
+
 ghost use Rattle.std.specs.Prelude.{◌≡◌, true, cond, List, ◌++◌, ℕ, ◌+◌, ◌*◌, ◌<◌, ◌≤◌, eqb, length, take};
 ghost use Rattle.ground.specs.Limits.{max_text, max_line_width, max_height, min_lines, min_scratch};
 ghost use Rattle.blocks.specs.Block.{Block};

@@ -1,4 +1,6 @@
 // The whole stack of two blocks, one above the other, at the overlap of their columns: the rows of both, and the refusals.
+#![tactic(auto)]
+
 pub mod stacking;
 mod writing;
 

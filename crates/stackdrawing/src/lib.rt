@@ -1,4 +1,6 @@
 // Two texts drawn by a font and a control file, one line above the other.
+#![tactic(auto)]
+
 ghost use Rattle.std.specs.Prelude.{◌≡◌, List, ℕ, ◌≤◌, length};
 ghost use Rattle.ground.specs.Area.{zeros};
 ghost use Rattle.ground.specs.Limits.{min_stacked_scratch};

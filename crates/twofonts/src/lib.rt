@@ -1,4 +1,6 @@
 // Two fonts, the second behind the first: a row request of both, and a line of text drawn by both.
+#![tactic(auto)]
+
 ghost use Rattle.std.specs.Prelude.{◌≡◌, ◌+◌, ◌≤◌, length};
 ghost use Rattle.ground.specs.Area.{zeros};
 ghost use Rattle.ground.specs.Limits.{min_scratch, max_characters};

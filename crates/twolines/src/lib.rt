@@ -1,4 +1,6 @@
 // The lines of two texts, drawn by one font, one above the other.
+#![tactic(auto)]
+
 ghost use Rattle.std.specs.Prelude.{◌≡◌, List, ℕ, ◌≤◌, length};
 ghost use Rattle.ground.specs.Limits.{max_line_width, max_height, max_text, min_stacked_scratch};
 ghost use Rattle.showing.specs.Scratch.{line_start};

@@ -1,4 +1,6 @@
 // The vertical pair decision: what a pair of sub-characters that lie above one another becomes. Hardblanks are blanks by then.
+#![tactic(auto)]
+
 ghost use Rattle.std.specs.Prelude.{◌≡◌};
 ghost use Rattle.rules.specs.Rules.{either_order};
 ghost use Rattle.vertical.specs.VerticalPair.{set_has, two_bars, first_merging, merge, merges, merged_byte, barred, passes_by, good_set, good_vertical};

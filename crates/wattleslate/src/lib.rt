@@ -1,4 +1,5 @@
 // The public calls. Each is total: it tests its own input, and its `ensures` hold for every input.
+#![tactic(auto)]
 
 // The types that the calls take and answer, the two calls over a lent index, those that ask one font and those about one control file.
 ghost use Rattle.std.specs.Prelude.{◌≡◌, length};

@@ -1,4 +1,6 @@
 // A text drawn in lines that are at most a limit wide.
+#![tactic(auto)]
+
 ghost use Rattle.std.specs.Prelude.{◌≡◌, List, ℕ, ◌≤◌, length};
 ghost use Rattle.ground.specs.Area.{zeros};
 ghost use Rattle.ground.specs.Limits.{max_text, max_line_width, min_lines, min_scratch};
