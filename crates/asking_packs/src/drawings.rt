@@ -7,7 +7,7 @@ use ground::limits;
 use subchars::{Direction, Layout, Smushing};
 
 // How a text is drawn by a pack.
-#[derive(Drop)]
+#[derive(Clone, Copy)]
 struct Manner {
     layout: Layout,
     direction: Direction,

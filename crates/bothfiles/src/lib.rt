@@ -17,7 +17,7 @@ use reader::FontAnswer;
 use source::Origin;
 
 // What reading both files gave: the font's header and how many characters and commands the lists hold; or the refusal of one of the files.
-#[derive(Drop)]
+#[derive(Clone, Copy)]
 pub enum Files {
     Read {
         header: Header,

@@ -13,7 +13,7 @@ use rows::{CharStep, Format};
 use subchars::Code;
 
 // A FIGcharacter of a font: its code, where its first row line starts, and its width.
-#[derive(Drop)]
+#[derive(Clone, Copy)]
 pub struct Entry {
     pub code: Code,
     pub start: usize,
@@ -21,21 +21,21 @@ pub struct Entry {
 }
 
 // What a code tag says.
-#[derive(Drop)]
+#[derive(Clone, Copy)]
 pub enum TagStep {
     Tag(Code),
     BadTag,
 }
 
 // The tag line at a place of a font, and the cursor behind it.
-#[derive(Drop)]
+#[derive(Clone, Copy)]
 pub enum TagAt {
     TagLine { code: Code, next: Cursor },
     NoTag,
 }
 
 // The next FIGcharacter of a font, and the cursor behind it.
-#[derive(Drop)]
+#[derive(Clone, Copy)]
 pub enum CharNext {
     Listed { entry: Entry, next: Cursor },
     Complete,

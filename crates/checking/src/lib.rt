@@ -17,14 +17,14 @@ use ground::{limits, refusals};
 use subchars::{Mode, SubCharacter};
 
 // How two lists compare: they are the same, or they first differ at a place.
-#[derive(Drop)]
+#[derive(Clone, Copy)]
 pub enum Compared {
     Same,
     Differs(usize),
 }
 
 // What a check answers: accepted, the number of the first wrong overlap in its list, the place of the first wrong byte in its FIGure, or a refusal.
-#[derive(Drop)]
+#[derive(Clone, Copy)]
 pub enum CheckAnswer {
     Accepted,
     WrongOverlap(usize),
@@ -33,7 +33,7 @@ pub enum CheckAnswer {
 }
 
 // What is known of a list of overlaps while a text is drawn: how many characters were drawn, and how their overlaps compare with the list.
-#[derive(Drop)]
+#[derive(Clone, Copy)]
 pub struct Tally {
     pub drawn: usize,
     pub wrong: Compared,

@@ -10,7 +10,7 @@ ghost use Rattle.columns.specs.Placing.{placed_block, PlacedIn};
 use subchars::SubCharacter;
 
 // Where a block lies in a slice: row r and column c at r * stride + base + c.
-#[derive(Drop)]
+#[derive(Clone, Copy)]
 pub struct Placed {
     pub base: usize,
     pub stride: usize,

@@ -12,7 +12,7 @@ use ground::{limits, refusals};
 use subchars::Code;
 
 // What mapping a code answers: the new code, or a refusal of the control file.
-#[derive(Drop)]
+#[derive(Clone, Copy)]
 pub enum MapAnswer {
     Mapped(Code),
     Refused(Refusal),

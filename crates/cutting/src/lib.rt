@@ -12,7 +12,7 @@ use ground::limits;
 pub const MOST_KEPT: usize = limits::MAX_TEXT + 1;
 
 // What is found in a part. `held` counts the bytes that are kept of a line.
-#[derive(Drop)]
+#[derive(Clone, Copy)]
 pub enum Step {
     // A line ends; the next one starts at `next`.
     Ended { held: usize, next: usize },

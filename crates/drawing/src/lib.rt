@@ -26,14 +26,14 @@ use source::{Chosen, Counts, Origin, Picked};
 use subchars::{Code, Direction, Mode};
 
 // What drawing answers: the width of the line, how many text bytes were stood in and how many drew nothing; or a refusal.
-#[derive(Drop)]
+#[derive(Clone, Copy)]
 pub enum DrawAnswer {
     Drawn { width: usize, counts: Counts },
     Refused(Refusal),
 }
 
 // A text that was drawn into a scratch area: the width of its line, and how many of its codes are not in the font.
-#[derive(Drop)]
+#[derive(Clone, Copy)]
 pub struct DrawnText {
     pub width: usize,
     pub missing: usize,

@@ -23,7 +23,7 @@ use source::{Chosen, Origin};
 use subchars::Mode;
 
 // A text that was drawn for a check: the width of its line, and what is known of the list of overlaps.
-#[derive(Drop)]
+#[derive(Clone, Copy)]
 pub struct TextChecked {
     pub width: usize,
     pub tally: Tally,

@@ -25,7 +25,7 @@ const ZEROS: [Entry; LENGTH] = [Entry {
 }; LENGTH];
 
 // What reading a font answers, and its characters.
-#[derive(Drop)]
+#[derive(Clone, Copy)]
 pub struct Listed {
     pub answer: FontAnswer,
     pub entries: [Entry; LENGTH],

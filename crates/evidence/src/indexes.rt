@@ -11,7 +11,7 @@ use wattleslate::{FontAnswer, LookedUp};
 const MOST: usize = 600;
 
 // What the two calls answer, and the entry that was asked for.
-#[derive(Drop)]
+#[derive(Clone, Copy)]
 pub(crate) struct Asked {
     pub(crate) answer: FontAnswer,
     pub(crate) looked: LookedUp,

@@ -9,7 +9,7 @@ use subchars::{Direction, Layout, Smushing, SubCharacter};
 use wattleslate::JoinAnswer;
 
 // How two blocks are joined.
-#[derive(Drop)]
+#[derive(Clone, Copy)]
 struct Manner {
     layout: Layout,
     direction: Direction,
@@ -17,7 +17,7 @@ struct Manner {
 }
 
 // The widths of the two blocks, and their height.
-#[derive(Drop)]
+#[derive(Clone, Copy)]
 struct Shape {
     height: usize,
     line: usize,

@@ -9,7 +9,7 @@ use subchars::{SubCharacter, VerticalLayout, VerticalSmushing};
 use wattleslate::StackAnswer;
 
 // The heights and widths of the two blocks.
-#[derive(Drop)]
+#[derive(Clone, Copy)]
 struct Shape {
     upper_height: usize,
     upper_width: usize,

@@ -10,7 +10,7 @@ use header::{Header, HeaderStep};
 use lines::{Cursor, LineStep};
 
 // A font's header and the cursor where its characters start, or its refusal.
-#[derive(Drop)]
+#[derive(Clone, Copy)]
 pub enum Opening {
     Open { header: Header, next: Cursor },
     Closed(Refusal),

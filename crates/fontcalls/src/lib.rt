@@ -12,14 +12,14 @@ use request::{Requested, Sought};
 use subchars::Code;
 
 // What a look-up answers: which of three it was, with the entry's own code, start and width; or the font's refusal.
-#[derive(Drop)]
+#[derive(Clone, Copy)]
 pub enum LookUpAnswer {
     Looked(LookedUp),
     Refused(Refusal),
 }
 
 // Whether a row request is refused, and where not, where in the font the row starts and how wide it is.
-#[derive(Drop)]
+#[derive(Clone, Copy)]
 pub enum RowRefusal {
     NotRefused { place: usize, width: usize },
     Refused(Refusal),

@@ -17,14 +17,14 @@ pub const BOTH_CHARACTERS: usize = 2 * limits::MAX_CHARACTERS;
 pub const BOTH_SMALL_CODES: usize = 2 * latest::SMALL_CODES;
 
 // One of two fonts.
-#[derive(Drop)]
+#[derive(Clone, Copy)]
 pub enum Which {
     First,
     Second,
 }
 
 // Which of three looking a code up in two fonts came to, with the font that has the entry.
-#[derive(Drop)]
+#[derive(Clone, Copy)]
 pub enum LookedUpInTwo {
     Found { font: Which, entry: Entry },
     StoodIn { font: Which, entry: Entry },

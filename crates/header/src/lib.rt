@@ -12,14 +12,14 @@ use lines::words;
 use subchars::{Layout, SubCharacter};
 
 // A parameter as a header writes it; one that is missing is not 0.
-#[derive(Drop)]
+#[derive(Clone, Copy)]
 pub enum Parameter {
     Missing,
     Number(i32),
 }
 
 // The parameters of a header as it writes them.
-#[derive(Drop)]
+#[derive(Clone, Copy)]
 pub struct Parameters {
     pub height: i32,
     pub baseline: i32,
@@ -32,21 +32,21 @@ pub struct Parameters {
 }
 
 // The parameters of a header, where it has the five that are required.
-#[derive(Drop)]
+#[derive(Clone, Copy)]
 pub enum ParameterStep {
     All(Parameters),
     TooFew,
 }
 
 // A legal parameter that may be absent.
-#[derive(Drop)]
+#[derive(Clone, Copy)]
 pub enum Given {
     Absent,
     Of(usize),
 }
 
 // What a legal header line says, and the layout that it gives.
-#[derive(Drop)]
+#[derive(Clone, Copy)]
 pub struct Header {
     pub hardblank: SubCharacter,
     pub height: usize,
@@ -60,7 +60,7 @@ pub struct Header {
     pub layout: Layout,
 }
 
-#[derive(Drop)]
+#[derive(Clone, Copy)]
 pub enum HeaderStep {
     Good(Header),
     Refused(Refusal),
@@ -70,14 +70,14 @@ pub enum HeaderStep {
 pub const MAX_PARAMETERS: usize = 8;
 
 // The numbers at the start of a text: the first `count` of the values.
-#[derive(Drop)]
+#[derive(Clone, Copy)]
 pub struct Numbers {
     pub values: [i32; MAX_PARAMETERS],
     pub count: usize,
 }
 
 // A word that is a number, and the place behind it.
-#[derive(Drop)]
+#[derive(Clone, Copy)]
 pub enum WordStep {
     Word { value: i32, next: usize },
     NoWord,

@@ -12,7 +12,7 @@ pub const SMALL_CODES: usize = 256;
 const FIRST_BEYOND: i32 = SMALL_CODES as i32;
 
 // A small code, or another one.
-#[derive(Drop)]
+#[derive(Clone, Copy)]
 pub enum Small {
     Below(usize),
     Beyond,

@@ -15,14 +15,14 @@ use rows::Format;
 use subchars::Code;
 
 // How many characters are in the index, or why they could not be read.
-#[derive(Drop)]
+#[derive(Clone, Copy)]
 pub enum Filling {
     Filled(usize),
     Failed(Refusal),
 }
 
 // A place in the index.
-#[derive(Drop)]
+#[derive(Clone, Copy)]
 pub enum Found {
     At(usize),
     Nowhere,

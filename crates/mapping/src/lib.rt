@@ -14,7 +14,7 @@ use ground::both;
 use subchars::Code;
 
 // A code on its way through the commands; the stages from `lowest` on may still act on it.
-#[derive(Drop)]
+#[derive(Clone, Copy)]
 pub struct Passing {
     pub lowest: usize,
     pub code: Code,

@@ -19,14 +19,14 @@ use rows::are_legal;
 use subchars::Code;
 
 // Height and number of live records.
-#[derive(Drop)]
+#[derive(Clone, Copy)]
 pub enum PackAnswer {
     Accepted { height: usize, live: usize },
     Refused(Refusal),
 }
 
 // Where the rows of a letter stand, its width, and how many bytes the rows have.
-#[derive(Drop)]
+#[derive(Clone, Copy)]
 pub enum Located {
     Rows {
         place: usize,
@@ -37,14 +37,14 @@ pub enum Located {
 }
 
 // Where the rows of a letter stand, and its width.
-#[derive(Drop)]
+#[derive(Clone, Copy)]
 pub enum FindAnswer {
     Found { place: usize, width: usize },
     Refused(Refusal),
 }
 
 // A change is done, or refused; then the pack is as it was lent.
-#[derive(Drop)]
+#[derive(Clone, Copy)]
 pub enum EditAnswer {
     Done,
     Refused(Refusal),

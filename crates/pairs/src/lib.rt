@@ -10,7 +10,7 @@ use subchars::{Direction, Layout, Mode, Smushing, SubCharacter};
 
 // What a pair becomes, and by what: a blank that yields, universal smushing, or a rule. (Document 01 calls the byte of the last two the
 // pair's joint.)
-#[derive(Drop)]
+#[derive(Clone, Copy)]
 pub enum Joint {
     ByBlank(SubCharacter),
     ByUniversal(SubCharacter),

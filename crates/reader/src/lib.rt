@@ -20,21 +20,21 @@ use rows::Format;
 use subchars::Code;
 
 // What reading a font answers: its header, with the layout, and how many characters it has; or a refusal.
-#[derive(Drop)]
+#[derive(Clone, Copy)]
 pub enum FontAnswer {
     Read { header: Header, count: usize },
     Refused(Refusal),
 }
 
 // The character that is used for a code.
-#[derive(Drop)]
+#[derive(Clone, Copy)]
 pub enum Use {
     Used(Entry),
     Nothing,
 }
 
 // Which of three looking a code up came to: its own character, the one of code 0 that stands in for it, or nothing.
-#[derive(Drop)]
+#[derive(Clone, Copy)]
 pub enum LookedUp {
     Found(Entry),
     StoodIn(Entry),

@@ -16,7 +16,7 @@ use rows::are_legal;
 use subchars::{Code, SubCharacter};
 
 // What the head of a pack says.
-#[derive(Drop)]
+#[derive(Clone, Copy)]
 pub struct Head {
     pub version: usize,
     pub height: usize,
@@ -24,7 +24,7 @@ pub struct Head {
 }
 
 // What stands at the start of a part of a pack: a record of a size, zeros to the end, or neither.
-#[derive(Drop)]
+#[derive(Clone, Copy)]
 pub enum Scan {
     Record {
         live: bool,
@@ -37,7 +37,7 @@ pub enum Scan {
 }
 
 // What stands at the start of a part that is known to hold whole records and zeros behind them.
-#[derive(Drop)]
+#[derive(Clone, Copy)]
 pub enum Skim {
     Record {
         live: bool,
@@ -49,35 +49,35 @@ pub enum Skim {
 }
 
 // Where a live record starts, and its width.
-#[derive(Drop)]
+#[derive(Clone, Copy)]
 pub enum Place {
     At { at: usize, width: usize },
     Nowhere,
 }
 
 // Where the first free record of a width starts, or else where the records end.
-#[derive(Drop)]
+#[derive(Clone, Copy)]
 pub enum Spot {
     Free(usize),
     Tail(usize),
 }
 
 // What a walk over the records seeks: the live record of a code, or a free one of a width.
-#[derive(Drop)]
+#[derive(Clone, Copy)]
 pub enum Wanted {
     Live(usize),
     Free(usize),
 }
 
 // Where the first record that is wanted starts, and its width, or else where the records end.
-#[derive(Drop)]
+#[derive(Clone, Copy)]
 pub enum Met {
     At { at: usize, width: usize },
     End(usize),
 }
 
 // How many records are live, if all is well with the records.
-#[derive(Drop)]
+#[derive(Clone, Copy)]
 pub enum Verdict {
     Sound(usize),
     Broken,

@@ -13,7 +13,7 @@ use reader::{FontAnswer, Use};
 use subchars::Code;
 
 // The character that a font has for a code, with the font's height, or the font's refusal.
-#[derive(Drop)]
+#[derive(Clone, Copy)]
 pub enum Sought {
     Found { height: usize, entry: Entry },
     NoDrawing,
@@ -21,7 +21,7 @@ pub enum Sought {
 }
 
 // Where a row stands in a font, or why it is refused.
-#[derive(Drop)]
+#[derive(Clone, Copy)]
 pub enum Requested {
     Row { place: usize, width: usize },
     Refused(Refusal),

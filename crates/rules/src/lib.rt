@@ -9,7 +9,7 @@ ghost use Rattle.rules.specs.Marks.{Marked};
 use subchars::SubCharacter;
 
 // The rules of controlled smushing, by the standard's names.
-#[derive(Drop)]
+#[derive(Clone, Copy)]
 pub enum Rule {
     EqualCharacter,
     Underscore,
@@ -20,7 +20,7 @@ pub enum Rule {
 }
 
 // A sub-character of one of the six classes of rule 4, counted from 1, and its partner under rule 8 (NUL where it has none).
-#[derive(Drop)]
+#[derive(Clone, Copy)]
 pub struct Mark {
     pub sub_character: SubCharacter,
     pub class: u8,

@@ -15,7 +15,7 @@ use ground::{limits, refusals};
 use subchars::{Direction, Mode, SubCharacter};
 
 // What putting out a line answers: its width, or a refusal.
-#[derive(Drop)]
+#[derive(Clone, Copy)]
 pub enum PutAnswer {
     Put(usize),
     Refused(Refusal),

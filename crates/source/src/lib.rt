@@ -20,7 +20,7 @@ use reader::Use;
 use subchars::Code;
 
 // What the bytes of a source are: a font, of which the lists hold so many characters; two fonts, each in its half of the lists; or a pack.
-#[derive(Drop)]
+#[derive(Clone, Copy)]
 pub enum Origin {
     Font { count: usize },
     Two { first: usize, second: usize },
@@ -28,21 +28,21 @@ pub enum Origin {
 }
 
 // What is drawn for a code: a character of the given width, which is the code's own or stands in for it; or nothing.
-#[derive(Drop)]
+#[derive(Clone, Copy)]
 pub enum Chosen {
     Character { width: usize, own: bool },
     Nothing,
 }
 
 // What is drawn for a code, and in the bytes of which of two fonts its rows stand: of the first where there is but one, or a pack.
-#[derive(Drop)]
+#[derive(Clone, Copy)]
 pub struct Picked {
     pub chosen: Chosen,
     pub font: Which,
 }
 
 // How many codes of a text were stood in, and how many drew nothing.
-#[derive(Drop)]
+#[derive(Clone, Copy)]
 pub struct Counts {
     pub stood_in: usize,
     pub nothing_drawn: usize,

@@ -19,7 +19,7 @@ use source::{Chosen, Origin};
 use subchars::Mode;
 
 // How the lines of a text are drawn: the limit, the mode and the height of the font's characters, and how many characters and commands the lists hold.
-#[derive(Drop)]
+#[derive(Clone, Copy)]
 pub struct Drawer {
     pub limit: usize,
     pub mode: Mode,
@@ -29,7 +29,7 @@ pub struct Drawer {
 }
 
 // A text whose bytes were looked up: where the first stands that is too wide, or the text's length; and how many up to there are not in the font.
-#[derive(Drop)]
+#[derive(Clone, Copy)]
 pub struct Measured {
     pub place: usize,
     pub missing: usize,
@@ -37,7 +37,7 @@ pub struct Measured {
 
 // What was kept of a line while it was sought: where the drawing in the output ends (where the line starts: there is none) and how wide it is; and how many columns
 // were put out for the line in all.
-#[derive(Drop)]
+#[derive(Clone, Copy)]
 pub struct Kept {
     pub end: usize,
     pub width: usize,
@@ -45,7 +45,7 @@ pub struct Kept {
 }
 
 // A line that was sought: where it ends, how far the text was drawn, and how wide that is; and what was kept of it.
-#[derive(Drop)]
+#[derive(Clone, Copy)]
 pub struct Sought {
     pub end: usize,
     pub at: usize,
@@ -54,7 +54,7 @@ pub struct Sought {
 }
 
 // A line that was drawn: where it ends, how wide it is, and whether it stands in the output.
-#[derive(Drop)]
+#[derive(Clone, Copy)]
 pub struct DrawnSpan {
     pub end: usize,
     pub width: usize,
@@ -62,7 +62,7 @@ pub struct DrawnSpan {
 }
 
 // Lines that were put out: how many, and how many bytes their drawings have; or the output has no room for them.
-#[derive(Drop)]
+#[derive(Clone, Copy)]
 pub enum LinesPut {
     Put { lines: usize, bytes: usize },
     NoRoom,

@@ -7,7 +7,7 @@ mod writing;
 use ground::refusals::Refusal;
 
 // What a stack answers: the overlap, the height and the width of the result, or a refusal.
-#[derive(Drop)]
+#[derive(Clone, Copy)]
 pub enum StackAnswer {
     Stacked {
         overlap: usize,

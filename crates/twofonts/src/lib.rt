@@ -29,7 +29,7 @@ use source::Origin;
 use subchars::Code;
 
 // What reading both fonts gave: the first one's header and how many characters of each the lists hold; or a refusal.
-#[derive(Drop)]
+#[derive(Clone, Copy)]
 pub enum BothRead {
     Read {
         header: Header,
@@ -40,7 +40,7 @@ pub enum BothRead {
 }
 
 // Where a row stands and in which of two fonts, or why it is refused.
-#[derive(Drop)]
+#[derive(Clone, Copy)]
 pub enum RequestedOfTwo {
     Row {
         font: Which,

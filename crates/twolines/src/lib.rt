@@ -24,7 +24,7 @@ use stack::{StackAnswer, stacking};
 use subchars::{Direction, Mode, VerticalLayout};
 
 // What drawing two texts answers: at which overlap the lines are closed up, how high and wide both are, and the counts over both texts; or a refusal.
-#[derive(Drop)]
+#[derive(Clone, Copy)]
 pub enum LinesAnswer {
     Drawn {
         overlap: usize,
@@ -36,7 +36,7 @@ pub enum LinesAnswer {
 }
 
 // Two texts that were drawn.
-#[derive(Drop)]
+#[derive(Clone, Copy)]
 pub struct DrawnTexts {
     pub upper: DrawnText,
     pub lower: DrawnText,

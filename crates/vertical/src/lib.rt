@@ -10,14 +10,14 @@ use pairs::Joint;
 use subchars::{Direction, Layout, Mode, Smushing, SubCharacter, VerticalLayout, VerticalSmushing};
 
 // What an overlap asks of each pair that faces: that the layout joins it, or that it has a blank or is of two bars.
-#[derive(Drop)]
+#[derive(Clone, Copy)]
 pub enum PairTest {
     ByLayout(VerticalLayout),
     Bars,
 }
 
 // What a pair becomes, if it is joined.
-#[derive(Drop)]
+#[derive(Clone, Copy)]
 pub enum Merge {
     Into(SubCharacter),
     Apart,

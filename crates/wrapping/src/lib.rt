@@ -24,7 +24,7 @@ use source::{Counts, Origin};
 use spans::{Drawer, LinesPut};
 
 // What drawing a text in lines answers: how many lines, and the counts of the whole text; or a refusal.
-#[derive(Drop)]
+#[derive(Clone, Copy)]
 pub enum WrapAnswer {
     Wrapped { lines: usize, counts: Counts },
     Refused(Refusal),
