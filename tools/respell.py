@@ -27,6 +27,8 @@ MET = {
     "place_in": "heads pack letters source capi packdrawing",
     "says_so": "commands",
 }
+# Names of the library that lemmas here have too: they stay where they are imported.
+IMPORTED = {"not-true": "borrow.Author.Tests", "and-false": "mathlib.Core.Bool"}
 # Definitions whose new spelling would be the name of a field of src/.
 FIELDS = {
     "fullLayout": "full_layout_of",
@@ -130,7 +132,8 @@ def main():
         new = re.sub("outcomes[.]no_room", "outcomes.no_room_lem", text)
         for n in here:
             new = re.sub(rf"(?<![\w.-]){n}(?![\w-])", n + "_lem", new)
-        new = TOKEN.sub(lambda m: turned(m[0], table), new)
+        stays = [n for n, m in IMPORTED.items() if re.search(rf"{m}[.][{{][^}}]*(?<![\w-]){n}(?![\w-])", text)]
+        new = TOKEN.sub(lambda m: m[0] if m[0] in stays else turned(m[0], table), new)
         if new != text:
             with open(path, "w", encoding="utf-8") as f:
                 f.write(new)

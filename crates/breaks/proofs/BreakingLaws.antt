@@ -7,7 +7,7 @@ use Prim.Native.Nat.{ℕ, zero, suc, ◌+◌, ◌-◌, ◌≤◌, ◌<◌}
 use native.Mathlib.Omega.{arith}
 use native.Mathlib.Decide.{dec_lt}
 use lib.ListN.{length, drop, get_or}
-use borrow.Author.Tests.{lt-ltb, le-ltb, le-leb, leb-true, eq-eqb, ne_eqb, not_true}
+use borrow.Author.Tests.{lt-ltb, le-ltb, le-leb, leb-true, eq-eqb, ne_eqb, not-true}
 use Rattle.ground.specs.Runs.{run}
 use Rattle.ground.proofs.Tests.{and_both, and_left, and_right, never_both}
 use Rattle.breaks.specs.Words.{is_break, in_word, word_from, word_behind, ends_word}
@@ -186,7 +186,7 @@ module _ (wide : ℕ → ℕ → ℕ) (limit : ℕ) (s : List ℕ) where
   unfolding spans_from
   no_words f =
       elim (dec_lt (word_from s 0) (length s)) [
-        | yes l ↦ absurd (never_both (is_break (get_or s (word_from s 0) 0)) (f (word_from s 0) l) (not_true _ (start_in_word s 0 l)))
+        | yes l ↦ absurd (never_both (is_break (get_or s (word_from s 0) 0)) (f (word_from s 0) l) (not-true _ (start_in_word s 0 l)))
         | no g ↦ lines_none (length s - 0) 0 (omega arith)
       ]
 

@@ -10,7 +10,7 @@ use native.Mathlib.Nat.{add-zero}
 use lib.Dec.{eqb}
 use lib.ListN.{length, drop, get_or, length-drop}
 use lib.Seq.{get_or-drop, drop-drop}
-use borrow.Author.Tests.{eq-eqb, ne_eqb, eqb-true, not_true, not-false}
+use borrow.Author.Tests.{eq-eqb, ne_eqb, eqb-true, not-true, not-false}
 use Rattle.ground.specs.Runs.{run}
 use Rattle.ground.proofs.Runs.{run_le, counted_none, counted-more, counted_stop, counted-end}
 use Rattle.ground.proofs.Tests.{and_both, and_left, and_right, or_left, or_right, or_elim, never_both}
@@ -94,7 +94,7 @@ module _ (s : List ℕ) where
       inside l =
           or_elim (eqb e (length s)) (is_break (get_or s e 0)) (and_right (in_word (get_or s (e - 1) 0)) _ t)
           (λ q. outside l (eqb-true e (length s) q))
-          (λ q. never_both (is_break (get_or s e 0)) q (not_true _ (run-place in_word b e (omega arith) l)))
+          (λ q. never_both (is_break (get_or s e 0)) q (not-true _ (run-place in_word b e (omega arith) l)))
 
 -- how a word's end is tested
 module _ (s : List ℕ) (e : ℕ) where
@@ -180,12 +180,12 @@ module _ (s : List ℕ) where
       elim (dec_lt (word_from s p) (last_behind s)) [
         | yes l ↦ l
         | no g ↦
-            absurd (never_both (is_break (get_or s (last_behind s - 1) 0)) (run-place s is_break p (last_behind s - 1) (omega arith) (omega arith)) (not_true _ (behind_in_word (omega arith))))
+            absurd (never_both (is_break (get_or s (last_behind s - 1) 0)) (run-place s is_break p (last_behind s - 1) (omega arith) (omega arith)) (not-true _ (behind_in_word (omega arith))))
       ]
 
   pub word_none : (p : ℕ) → last_behind s ≤ p → length s ≤ word_from s p
   word_none p h =
       elim (dec_lt (word_from s p) (length s)) [
-        | yes l ↦ absurd (never_both (is_break (get_or s (word_from s p) 0)) (behind_breaks (word_from s p) (omega arith) l) (not_true _ (start_in_word s p l)))
+        | yes l ↦ absurd (never_both (is_break (get_or s (word_from s p) 0)) (behind_breaks (word_from s p) (omega arith) l) (not-true _ (start_in_word s p l)))
         | no g ↦ omega arith
       ]

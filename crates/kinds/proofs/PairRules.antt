@@ -10,7 +10,7 @@ use Prim.Native.Nat.{ℕ, suc, ◌+◌, ◌-◌, ◌<◌}
 use native.Mathlib.Omega.{arith}
 use lib.Dec.{eqb}
 use lib.ListN.{length, get_or}
-use borrow.Author.Tests.{eq-eqb, ne_eqb, eqb-true, eqb-false, not_true}
+use borrow.Author.Tests.{eq-eqb, ne_eqb, eqb-true, eqb-false, not-true}
 use Rattle.ground.specs.Text.{byte, among}
 use Rattle.ground.specs.Count.{every}
 use Rattle.ground.proofs.Tests.{and_left, and_right, or_elim, same_test, never_both}
@@ -201,7 +201,7 @@ kind h x seen = go (eqb x h) refl (placed twelve 2 x)
         (record { above = omega arith; below = omega arith; like = record { own = t; named = λ f. absurd (never_both (eqb x h) t f) } })
     go false t (inl w) =
         let same : one_of (2 + w.0) ≡ x = the_twelfth w.0 w.1 ∙ w.2 in
-        let no-dollar = not_true (eqb (one_of (2 + w.0)) dollar) (and_right (among twelve (one_of (2 + w.0))) _ (in_twelve w.0 w.1)) in
+        let no-dollar = not-true (eqb (one_of (2 + w.0)) dollar) (and_right (among twelve (one_of (2 + w.0))) _ (in_twelve w.0 w.1)) in
         subst (Kind h x) (sym w.3 ∙ place_is_kind h x seen t)
         (record { above = omega arith; below = omega (arith, w.1); like = record { own = t ∙ sym no-dollar; named = λ f c m. ap (λ (y : ℕ). eqb y c) (sym same) } })
     go false t (inr w) =
@@ -255,7 +255,7 @@ unfolding apart_test
 apart i a b =
     or_elim (eqb i 0) _ (every-at apart_test 15 apart_right i b)
     (λ t. absurd (omega (arith, eqb-true i 0 t)))
-    (λ t. (not_true (eqb (one_of i) (byte "b")) (and_left (not (eqb (one_of i) (byte "b"))) _ t), eqb-true _ 0 (and_right (not (eqb (one_of i) (byte "b"))) _ t)))
+    (λ t. (not-true (eqb (one_of i) (byte "b")) (and_left (not (eqb (one_of i) (byte "b"))) _ t), eqb-true _ 0 (and_right (not (eqb (one_of i) (byte "b"))) _ t)))
 
 module _ (h l r : ℕ) (left-seen : l ≡ blank → ⊥) (right-seen : r ≡ blank → ⊥) where
   left : Kind h l (kind_of h l)

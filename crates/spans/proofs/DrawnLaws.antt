@@ -8,7 +8,7 @@ use native.Mathlib.Omega.{arith}
 use lib.Dec.{ltb}
 use lib.ListN.{length, take, drop, get_or, length-drop}
 use lib.Seq.{take-suc, get_or-drop}
-use borrow.Author.Tests.{ltb-false, not_true}
+use borrow.Author.Tests.{ltb-false, not-true}
 use Rattle.subchars.specs.declared.Mode.{Mode}
 use Rattle.blocks.specs.Block.{Block}
 use Rattle.blocks.specs.Writing.{Like}
@@ -94,7 +94,7 @@ module _ (y : Mode) (h : ℕ) where
     unfolding first_wider
     none-wider limit l p m t =
         let x = byte_choice source cs k (get_or s p 0) in
-        let u = not_true (too_wide limit (get_or s p 0) x) (run_at (λ z. not (too_wide limit z (byte_choice source cs k z))) s p (omega arith)) in
+        let u = not-true (too_wide limit (get_or s p 0) x) (run_at (λ z. not (too_wide limit z (byte_choice source cs k z))) s p (omega arith)) in
         let v : ltb limit (choice_width x) ≡ false = sym (ap (λ (q : Bool). q && ltb limit (choice_width x)) t) ∙ u in
         omega (arith, ltb-false limit (choice_width x) v, one-wide p m)
 

@@ -8,7 +8,7 @@ use Prim.Native.Nat.{ℕ, ◌*◌, ◌≤◌, ◌<◌, max}
 use native.Mathlib.Omega.{arith}
 use lib.Dec.{ltb}
 use lib.ListN.{length}
-use borrow.Author.Tests.{lt-ltb, le-ltb, ltb-true, ltb-false, not_true, not-false}
+use borrow.Author.Tests.{lt-ltb, le-ltb, ltb-true, ltb-false, not-true, not-false}
 use Rattle.ground.specs.Limits.{max_height, max_line_width, max_stack_height}
 use Rattle.ground.specs.Refusals.{area_too_small, bad_shape, stack_too_high}
 use Rattle.ground.proofs.Tests.{and_none, and_left, and_right, not_true_false, never_both, below_or_not}
@@ -134,7 +134,7 @@ module _ (layout : VerticalLayout) (hardblank n upperWidth : ℕ) (upper : List 
       go p q k b (lower_not_exact u) = u q.3
 
   shape_good : (BadStack → ⊥) → shape ≡ true
-  shape_good f = not-false shape (not_true_false (not shape) λ e. f (shape_bad (not_true shape e)))
+  shape_good f = not-false shape (not_true_false (not shape) λ e. f (shape_bad (not-true shape e)))
 
   bad_shaped : BadStack → shape ≡ false
   bad_shaped b = not_true_false shape λ e. good_is e b

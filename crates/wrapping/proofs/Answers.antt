@@ -8,7 +8,7 @@ use Prim.Native.Nat.{ℕ, ◌≤◌, ◌<◌}
 use native.Mathlib.Omega.{arith}
 use lib.Dec.{ltb}
 use lib.ListN.{length, get_or}
-use borrow.Author.Tests.{lt-ltb, le-ltb, ltb-true, ltb-false, not_true, not-false}
+use borrow.Author.Tests.{lt-ltb, le-ltb, ltb-true, ltb-false, not-true, not-false}
 use Rattle.ground.specs.Limits.{max_line_width, max_text, min_lines, min_scratch}
 use Rattle.ground.specs.Refusals.{refusal, area_too_small, text_too_long, line_too_wide, bad_shape, character_too_wide}
 use Rattle.ground.specs.declared.refusals.Refusal.{Refusal}
@@ -51,7 +51,7 @@ module _ (source : Source) (cs : List Command) (k limit : ℕ) (text : List ℕ)
   pub none_before : (p : ℕ) → p < first_wider source cs k limit text → in_word (get_or text p 0) ≡ true → choice_width (choice_at p) ≤ limit
   unfolding first_wider
   none_before p l v =
-      let u = not_true (too_wide limit (get_or text p 0) (choice_at p)) (run_at passes text p l) in
+      let u = not-true (too_wide limit (get_or text p 0) (choice_at p)) (run_at passes text p l) in
       ltb-false limit (choice_width (choice_at p)) (sym (ap (λ (q : Bool). q && ltb limit (choice_width (choice_at p))) v) ∙ u)
 
 module _ (firstRoom endRoom size : ℕ) (s control : List ℕ) (limit : ℕ) (text : List ℕ) (room : ℕ) where

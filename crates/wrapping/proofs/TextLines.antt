@@ -8,7 +8,7 @@ use native.Mathlib.Omega.{arith}
 use native.Mathlib.Decide.{dec_lt}
 use lib.ListN.{length, drop, get_or, take-append-drop}
 use lib.Seq.{drop-drop}
-use borrow.Author.Tests.{not_true}
+use borrow.Author.Tests.{not-true}
 use Rattle.subchars.specs.declared.Mode.{Mode}
 use Rattle.blocks.specs.Block.{Block}
 use Rattle.showing.specs.Output.{shown}
@@ -125,7 +125,7 @@ module _ (y : Mode) (h : ℕ) (source : Source) (cs : List Command) (k limit : �
   -- "Its rest is the next line's first word": behind a line that breaks a word the next line starts at once.
   pub rest_next : (p : ℕ) → p < length text → in_word (get_or text p 0) ≡ true → spans_from wide limit text p ≡ span p (span_end wide limit text p) ∷ spans_from wide limit text (span_end wide limit text p)
   rest_next p u v =
-      let z : word_from text p ≡ p = sym (run_here text is_break p u (not_true _ v)) in
+      let z : word_from text p ≡ p = sym (run_here text is_break p u (not-true _ v)) in
       from_some wide limit text none p (omega (arith, z)) ∙ ap (λ (j : ℕ). span j (span_end wide limit text j) ∷ spans_from wide limit text (span_end wide limit text j)) z
 
   -- "A text without words has no lines."

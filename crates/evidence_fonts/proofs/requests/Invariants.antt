@@ -1,0 +1,10 @@
+-- `evidence_fonts::requests` is safe and ends: each line brings the cursor nearer to the end.
+use Prim.Native.Nat.{◌-◌}
+use lib.ListN.{length}
+use Rattle.evidence_fonts.proofs.requests.Given as goal
+
+abbrev pub invariant-loop-start : goal.invariant-loop-start
+invariant-loop-start l = Unit {0}
+
+abbrev pub decreases-loop-start : goal.decreases-loop-start
+decreases-loop-start l = length l.t - l.cursor.at

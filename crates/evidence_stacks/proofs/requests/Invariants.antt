@@ -1,0 +1,11 @@
+-- `evidence_stacks::requests` is safe and ends: each line brings the cursor nearer to the end.
+use mathlib.Core.Path.{◌≡◌}
+use Prim.Native.Nat.{◌-◌}
+use lib.ListN.{length}
+use Rattle.evidence_stacks.proofs.requests.Given as goal
+
+abbrev pub invariant-loop-start : goal.invariant-loop-start
+invariant-loop-start l = length l.pack ≡ length l.initial.pack
+
+abbrev pub decreases-loop-start : goal.decreases-loop-start
+decreases-loop-start l = length l.t - l.cursor.at

@@ -1,0 +1,12 @@
+-- `letters::hold_letters` meets its contract. The invariant: what is found behind the head is what is held, or else what is found from `at` on.
+use mathlib.Core.Path.{◌≡◌}
+use Prim.Native.Nat.{◌-◌}
+use lib.ListN.{length}
+use Rattle.letters.proofs.HeldLaws.{Passed}
+use Rattle.letters.proofs.hold_letters.Given as goal
+
+abbrev pub invariant-loop-live : goal.invariant-loop-live
+invariant-loop-live l = Passed l.head l.pack l.initial.at l.at l.starts l.widths × (length l.starts ≡ length l.initial.starts) × (length l.widths ≡ length l.initial.widths)
+
+abbrev pub decreases-loop-live : goal.decreases-loop-live
+decreases-loop-live l = length l.pack - l.at

@@ -1,0 +1,26 @@
+use mathlib.Core.Path.{◌≡◌, refl, sym, ap, ◌∙◌}
+use Prim.Native.Nat.{ℕ, ◌≤◌, ◌-◌, ◌+◌, ◌*◌, ◌^◌, min}
+use native.Mathlib.Omega.{arith}
+use lib.ListN.{take, get_or}
+use Rattle.lines.specs.Numbers.{digit_of, value}
+use Rattle.lines.proofs.NumberLaws.{digit_small, value_step, limit_step, product_small}
+use Rattle.lines.proofs.numbers.value_of.Goals as goal
+
+again : (b v d m e : ℕ) → 1 ≤ b → m ≡ min v (2 ^ 32) → e ≡ d → min (m * b + e) (2 ^ 32) ≡ min (v * b + d) (2 ^ 32)
+again b v d m e hb hm he = simp (hm, he) (limit_step b v d (2 ^ 32) hb)
+
+pub loop-i-init : goal.loop-i-init
+unfolding value
+loop-i-init c = (omega arith, refl)
+
+pub overflow_add-v : goal.overflow_add-v
+overflow_add-v c = omega (arith, product_small c.loop-i.v c.args.base (omega arith) (omega arith), c.digit.ensures, digit_small (get_or c.args.digits.now c.loop-i.i 0))
+
+pub loop-i-preserved : goal.loop-i-preserved
+loop-i-preserved c =
+    let b = c.args.base in
+    let w = c.args.digits.now in
+    let i = c.loop-i.i in
+    let d = c.digit in
+    let s = again b (value b (take i w)) (digit_of (get_or w i 0)) c.loop-i.v d.result c.requires.0 c.loop-i.invariant.1 d.ensures in
+    (omega arith, c.saturated-v.ensures ∙ s ∙ sym (ap (λ (x : ℕ). min x (2 ^ 32)) (value_step b w i (omega arith))))
