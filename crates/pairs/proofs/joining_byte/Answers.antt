@@ -2,6 +2,8 @@
 use mathlib.Core.Path.{◌≡◌, refl, sym, ◌∙◌, ap}
 use mathlib.Core.Bool.{true}
 use Rattle.ground.proofs.Tests.{never_both}
+use Prim.Native.Nat.{ℕ}
+use Rattle.subchars.specs.declared.Mode.{Mode}
 use Rattle.subchars.specs.declared.Layout.{Layout}
 use Rattle.pairs.specs.declared.Joint.{Joint}
 use Rattle.pairs.specs.Pair.{without_blank, joint, joins, is_joined, byte_of}
@@ -10,21 +12,17 @@ use Rattle.pairs.proofs.joining_byte.Goals.{After-hardblank-1}
 use Rattle.pairs.proofs.joining_byte.Goals as goal
 
 -- the joint of a pair without a blank by a layout
-abbrev by : tie.Start → Layout → Joint
-by s layout = without_blank layout s.args.mode.direction s.args.mode.hardblank.0 s.args.left.0 s.args.right.0
+abbrev by : Mode → ℕ → ℕ → Layout → Joint
+by m l r layout = without_blank layout m.direction m.hardblank.0 l r
 
-abbrev start : tie.After-hardblank → tie.Start
-start e = e.before.before.before.before.before
-
-module _ (e : After-hardblank-1) (layout : Layout) (is : (start e).args.mode.layout ≡ layout) where
-  no_blanks : joint (start e).args.mode (start e).args.left.0 (start e).args.right.0 ≡ by (start e) layout
+module _ (e : After-hardblank-1) (layout : Layout) (is : e.args.mode.layout ≡ layout) where
+  no_blanks : joint e.args.mode e.args.left.0 e.args.right.0 ≡ by e.args.mode e.args.left.0 e.args.right.0 layout
   no_blanks =
-      let s = start e in
-      no_blank s.args.mode s.args.left.0 s.args.right.0 e.if-left-eq32.false e.if-right-eq32.false ∙ ap (by s) is
+      no_blank e.args.mode e.args.left.0 e.args.right.0 e.if-left-eq32.false e.if-right-eq32.false ∙ ap (by e.args.mode e.args.left.0 e.args.right.0) is
 
-  it_joins : is_joined (by (start e) layout) ≡ true
+  it_joins : is_joined (by e.args.mode e.args.left.0 e.args.right.0 layout) ≡ true
   unfolding joins
-  it_joins = sym (ap is_joined no_blanks) ∙ (start e).pre
+  it_joins = sym (ap is_joined no_blanks) ∙ e.requires
 
 pub returns-then-left-eq32 : goal.returns-then-left-eq32
 returns-then-left-eq32 c = let a = c.args in sym (ap byte_of (blank_left a.mode a.left.0 a.right.0 c.if-left-eq32.true))

@@ -8,7 +8,7 @@ use Rattle.pairs.proofs.smushed_byte.Goals.{Start}
 use Rattle.pairs.proofs.smushed_byte.Goals as goal
 
 -- the joint by a kind of smushing
-abbrev by : tie.Start → Smushing → Joint
+abbrev by : Start → Smushing → Joint
 by s kind = smushed kind s.args.direction s.args.hardblank.0 s.args.left.0 s.args.right.0
 
 pub returns-in-Controlled : goal.returns-in-Controlled

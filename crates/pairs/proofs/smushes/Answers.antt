@@ -12,7 +12,7 @@ use Rattle.pairs.proofs.smushes.Goals.{Start}
 use Rattle.pairs.proofs.smushes.Goals as goal
 
 -- whether a kind of smushing joins the pair
-abbrev by : tie.Start → Direction → Smushing → Bool
+abbrev by : Start → Direction → Smushing → Bool
 by s d kind = is_joined (smushed kind d s.args.hardblank.0 s.args.left.0 s.args.right.0)
 
 universal-joined : (d : Direction) (h l r : ℕ) → is_joined (universal d h l r) ≡ true
