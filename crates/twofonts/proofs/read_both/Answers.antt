@@ -35,6 +35,6 @@ returns c =
     let one = c.read_font-a in
     let two = c.read_font-b in
     subst (λ (r : BothRead). BothHeld a.first.now a.second.now r (filled max_characters a.codes.now one.new.codes two.new.codes) (filled max_characters a.starts.now one.new.starts two.new.starts) (filled max_characters a.widths.now one.new.widths two.new.widths) (filled small_codes a.places.now one.new.places two.new.places)) (sym c.both_of.ensures)
-    (both_held a.first.now a.second.now (filled max_characters a.codes.now one.new.codes two.new.codes) (filled max_characters a.starts.now one.new.starts two.new.starts) (filled max_characters a.widths.now one.new.widths two.new.widths) (filled small_codes a.places.now one.new.places two.new.places) (record { for_codes = omega (arith, p.character_room.for_codes, same-long max_characters a.codes.now one.new.codes two.new.codes (omega (arith, p.character_room.for_codes)) one.auto.1.0 two.auto.1.0); for_starts = omega (arith, p.character_room.for_starts, same-long max_characters a.starts.now one.new.starts two.new.starts (omega (arith, p.character_room.for_starts)) one.auto.1.1.0 two.auto.1.1.0); for_widths = omega (arith, p.character_room.for_widths, same-long max_characters a.widths.now one.new.widths two.new.widths (omega (arith, p.character_room.for_widths)) one.auto.1.1.1.0 two.auto.1.1.1.0) }) one.result two.result
-    (rw (first_half max_characters a.codes.now one.new.codes two.new.codes (omega (arith, p.character_room.for_codes)) one.auto.1.0 two.auto.1.0, first_half max_characters a.starts.now one.new.starts two.new.starts (omega (arith, p.character_room.for_starts)) one.auto.1.1.0 two.auto.1.1.0, first_half max_characters a.widths.now one.new.widths two.new.widths (omega (arith, p.character_room.for_widths)) one.auto.1.1.1.0 two.auto.1.1.1.0, first_half small_codes a.places.now one.new.places two.new.places (omega (arith, p.places_len)) one.auto.1.1.1.1.0 two.auto.1.1.1.1.0) one.ensures)
-    (rw (second_half max_characters a.codes.now one.new.codes two.new.codes (omega (arith, p.character_room.for_codes)) one.auto.1.0 two.auto.1.0, second_half max_characters a.starts.now one.new.starts two.new.starts (omega (arith, p.character_room.for_starts)) one.auto.1.1.0 two.auto.1.1.0, second_half max_characters a.widths.now one.new.widths two.new.widths (omega (arith, p.character_room.for_widths)) one.auto.1.1.1.0 two.auto.1.1.1.0, second_half small_codes a.places.now one.new.places two.new.places (omega (arith, p.places_len)) one.auto.1.1.1.1.0 two.auto.1.1.1.1.0) two.ensures))
+    (both_held a.first.now a.second.now (filled max_characters a.codes.now one.new.codes two.new.codes) (filled max_characters a.starts.now one.new.starts two.new.starts) (filled max_characters a.widths.now one.new.widths two.new.widths) (filled small_codes a.places.now one.new.places two.new.places) (record { for_codes = omega (arith, p.character_room.for_codes, same-long max_characters a.codes.now one.new.codes two.new.codes (omega (arith, p.character_room.for_codes)) one.auto.codes two.auto.codes); for_starts = omega (arith, p.character_room.for_starts, same-long max_characters a.starts.now one.new.starts two.new.starts (omega (arith, p.character_room.for_starts)) one.auto.starts two.auto.starts); for_widths = omega (arith, p.character_room.for_widths, same-long max_characters a.widths.now one.new.widths two.new.widths (omega (arith, p.character_room.for_widths)) one.auto.widths two.auto.widths) }) one.result two.result
+    (rw (first_half max_characters a.codes.now one.new.codes two.new.codes (omega (arith, p.character_room.for_codes)) one.auto.codes two.auto.codes, first_half max_characters a.starts.now one.new.starts two.new.starts (omega (arith, p.character_room.for_starts)) one.auto.starts two.auto.starts, first_half max_characters a.widths.now one.new.widths two.new.widths (omega (arith, p.character_room.for_widths)) one.auto.widths two.auto.widths, first_half small_codes a.places.now one.new.places two.new.places (omega (arith, p.places_len)) one.auto.places two.auto.places) one.ensures)
+    (rw (second_half max_characters a.codes.now one.new.codes two.new.codes (omega (arith, p.character_room.for_codes)) one.auto.codes two.auto.codes, second_half max_characters a.starts.now one.new.starts two.new.starts (omega (arith, p.character_room.for_starts)) one.auto.starts two.auto.starts, second_half max_characters a.widths.now one.new.widths two.new.widths (omega (arith, p.character_room.for_widths)) one.auto.widths two.auto.widths, second_half small_codes a.places.now one.new.places two.new.places (omega (arith, p.places_len)) one.auto.places two.auto.places) two.ensures))
