@@ -31,7 +31,7 @@ returns c =
     λ source given control held.
     record {
       first = subst (TextDrawn a.mode a.height max_line_width source (text_codes held.commands held.count a.upper.now) one.result)
-          (sym (first_half min_scratch a.scratch.now one.new.area two.new.area long one.auto.0 two.auto.0)) (one.ensures source given control held);
+          (sym (first_half min_scratch a.scratch.now one.new.area two.new.area long one.auto.area two.auto.area)) (one.ensures source given control held);
       second = subst (TextDrawn a.mode a.height max_line_width source (text_codes held.commands held.count a.lower.now) two.result)
-          (sym (second_half min_scratch a.scratch.now one.new.area two.new.area long one.auto.0 two.auto.0)) (two.ensures source given control held);
+          (sym (second_half min_scratch a.scratch.now one.new.area two.new.area long one.auto.area two.auto.area)) (two.ensures source given control held);
     }
