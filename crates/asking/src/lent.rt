@@ -1,6 +1,7 @@
 // The areas that are lent for an answer, and how they are shown.
 use crate::printing::{counted, named, quoted, refused, text};
 use drawing::DrawAnswer;
+use std::io;
 
 // The arrays of which an output and a scratch are lent.
 pub const MOST_ROOM: usize = 2100;
@@ -28,13 +29,13 @@ fn printable(x: u8) -> u8 {
 }
 
 // Prints all of an output.
-pub fn show_output(out: &mut [u8]) {
+pub fn show_output(rt: &impl Print, out: &mut [u8]) -> io::Result<()> {
     let mut i: usize = 0;
     while i < out.len() {
         out[i] = printable(out[i]);
         i += 1;
     }
-    quoted(out);
+    quoted(rt, out)
 }
 
 fn all_zeros(area: &[u8]) -> bool {
@@ -49,27 +50,31 @@ fn all_zeros(area: &[u8]) -> bool {
 }
 
 // Tells whether a scratch is all zeros.
-pub fn show_scratch(scratch: &[u8]) {
+pub fn show_scratch(rt: &impl Print, scratch: &[u8]) -> io::Result<()> {
     if all_zeros(scratch) {
-        text(b", scratch all zeros");
-        return;
+        return text(rt, b", scratch all zeros");
     }
-    text(b", scratch NOT all zeros");
+    text(rt, b", scratch NOT all zeros")
 }
 
-fn show_answer(answer: DrawAnswer) {
+fn show_answer(rt: &impl Print, answer: DrawAnswer) -> io::Result<()> {
     match answer {
         DrawAnswer::Drawn { width, counts } => {
-            named(b"width ", width);
-            counted(counts.stood_in, counts.nothing_drawn);
+            named(rt, b"width ", width)?;
+            counted(rt, counts.stood_in, counts.nothing_drawn)
         }
-        DrawAnswer::Refused(r) => refused(r.number, r.place),
+        DrawAnswer::Refused(r) => refused(rt, r.number, r.place),
     }
 }
 
 // What came of a drawing: the answer, all of the output, and whether the scratch is all zeros.
-pub fn show_drawing(answer: DrawAnswer, scratch: &[u8], out: &mut [u8]) {
-    show_answer(answer);
-    show_output(out);
-    show_scratch(scratch);
+pub fn show_drawing(
+    rt: &impl Print,
+    answer: DrawAnswer,
+    scratch: &[u8],
+    out: &mut [u8],
+) -> io::Result<()> {
+    show_answer(rt, answer)?;
+    show_output(rt, out)?;
+    show_scratch(rt, scratch)
 }

@@ -4,23 +4,46 @@
 pub mod lent;
 pub mod printing;
 
-ghost use Rattle.io.specs.Counts.{IsPrefixLen};
+ghost use Rattle.std.specs.Counts.{IsPrefixLen};
+ghost use Rattle.std.specs.Io.{ReadsAtMost};
 
 use lines::numbers::CodeNumber;
 use lines::{numbers, words};
+use std::io::{ErrorKind, Read};
+use std::rt::Files;
+use std::{fs, io};
 use subchars::{Code, SubCharacter};
 
-// Reads a file of the folder; one that is not there is empty.
-pub fn load(name: &[u8], buffer: &mut [u8]) -> usize
+// Reads until a buffer is full or the input ends, and tells how many bytes it put at the start of the buffer.
+pub fn read_full(input: &mut impl Read, buffer: &mut [u8]) -> io::Result<usize>
+    ensures { ReadsAtMost result buffer.new }
+{
+    let mut done: usize = 0;
+    for _ in 0..u64::MAX {
+        if done == buffer.len() {
+            break;
+        }
+        match input.read(&mut buffer[done..]) {
+            Ok(0) => break,
+            Ok(n) => done += n,
+            Err(e) if e.kind() == ErrorKind::Interrupted => {}
+            Err(e) => return Err(e),
+        }
+    }
+    Ok(done)
+}
+
+// Reads a file of the folder; one that is not there, or that cannot be read, is empty.
+pub fn load(files: &impl Files, name: &[u8], buffer: &mut [u8]) -> usize
     ensures { IsPrefixLen result buffer.new }
 {
-    let fd = os::open_read(name);
-    if fd < 0 {
+    let Ok(path) = str::from_utf8(name) else {
         return 0;
+    };
+    match fs::open(files, path) {
+        Ok(mut file) => read_full(&mut file, buffer).unwrap_or(0),
+        Err(_) => 0,
     }
-    let n = io::read_full(fd, buffer);
-    libc::close(fd);
-    n
 }
 
 // The first 64 bytes of a request.

@@ -1,56 +1,50 @@
 // Texts and numbers on standard output.
-use libc::STDOUT_FILENO;
+use std::io;
 
-pub fn text(t: &[u8]) {
-    io::write_all(STDOUT_FILENO, t);
+pub fn text(rt: &impl Print, t: &[u8]) -> io::Result<()> {
+    rt.write_all(t)
 }
 
-pub fn number(n: usize) {
-    io::print_decimal(STDOUT_FILENO, n as u64);
+pub fn number(rt: &impl Print, n: usize) -> io::Result<()> {
+    rt.print(n)
 }
 
 // A text, and behind it a colon and a blank.
-pub fn heading(t: &[u8]) {
-    text(t);
-    text(b": ");
+pub fn heading(rt: &impl Print, t: &[u8]) -> io::Result<()> {
+    text(rt, t)?;
+    text(rt, b": ")
 }
 
 // Bytes in backquotes, behind a comma.
-pub fn quoted(t: &[u8]) {
-    text(b", `");
-    text(t);
-    text(b"`");
+pub fn quoted(rt: &impl Print, t: &[u8]) -> io::Result<()> {
+    text(rt, b", `")?;
+    text(rt, t)?;
+    text(rt, b"`")
 }
 
 // A number behind a text.
-pub fn named(name: &[u8], n: usize) {
-    text(name);
-    number(n);
+pub fn named(rt: &impl Print, name: &[u8], n: usize) -> io::Result<()> {
+    text(rt, name)?;
+    number(rt, n)
 }
 
 // How many text bytes were stood in and how many drew nothing, each behind a comma.
-pub fn counted(stood_in: usize, nothing_drawn: usize) {
-    named(b", stood in ", stood_in);
-    named(b", nothing drawn ", nothing_drawn);
+pub fn counted(rt: &impl Print, stood_in: usize, nothing_drawn: usize) -> io::Result<()> {
+    named(rt, b", stood in ", stood_in)?;
+    named(rt, b", nothing drawn ", nothing_drawn)
 }
 
-pub fn signed(z: i32) {
-    let w = z as i64;
-    if z < 0 {
-        text(b"-");
-        io::print_decimal(STDOUT_FILENO, (0 - w) as u64);
-        return;
-    }
-    io::print_decimal(STDOUT_FILENO, w as u64);
+pub fn signed(rt: &impl Print, z: i32) -> io::Result<()> {
+    rt.print(z)
 }
 
 // The same of a code or of another number with a sign.
-pub fn signed_named(name: &[u8], z: i32) {
-    text(name);
-    signed(z);
+pub fn signed_named(rt: &impl Print, name: &[u8], z: i32) -> io::Result<()> {
+    text(rt, name)?;
+    signed(rt, z)
 }
 
-pub fn refused(number: usize, place: usize) {
-    named(b"refused ", number);
-    named(b" at ", place);
+pub fn refused(rt: &impl Print, number: usize, place: usize) -> io::Result<()> {
+    named(rt, b"refused ", number)?;
+    named(rt, b" at ", place)
 }

@@ -4,6 +4,8 @@ ghost use Rattle.std.specs.Prelude.{◌≤◌};
 use asking::lent::{MOST_ROOM, MOST_SCRATCH, show_drawing, used_output, used_scratch};
 use asking::{behind, load, past_byte, row_of, word_of};
 use ground::limits;
+use std::io;
+use std::rt::Files;
 use subchars::{Direction, Layout, Smushing};
 
 // How a text is drawn by a pack.
@@ -24,71 +26,103 @@ fn layout_of(word: &[u8]) -> Layout {
 }
 
 fn by_pack_in(
+    rt: &impl Print,
     pack: &[u8],
     m: Manner,
     control: &[u8],
     t: &[u8],
     scratch: &mut [u8],
     out: &mut [u8],
-) {
+) -> io::Result<()> {
     let layout = m.layout;
     let direction = m.direction;
     let answer = wattleslate::draw_pack(pack, layout, direction, control, t, scratch, out);
-    show_drawing(answer, scratch, out);
+    show_drawing(rt, answer, scratch, out)
 }
 
-fn by_font_in(font: &[u8], control: &[u8], t: &[u8], scratch: &mut [u8], out: &mut [u8]) {
+fn by_font_in(
+    rt: &impl Print,
+    font: &[u8],
+    control: &[u8],
+    t: &[u8],
+    scratch: &mut [u8],
+    out: &mut [u8],
+) -> io::Result<()> {
     let answer = wattleslate::draw(font, control, t, scratch, out);
-    show_drawing(answer, scratch, out);
+    show_drawing(rt, answer, scratch, out)
 }
 
 // Draws by a pack in areas of some size.
-fn by_pack(pack: &[u8], m: Manner, control: &[u8], t: &[u8], size: usize, room: usize)
+fn by_pack(
+    rt: &impl Print,
+    pack: &[u8],
+    m: Manner,
+    control: &[u8],
+    t: &[u8],
+    size: usize,
+    room: usize,
+) -> io::Result<()>
     requires { (size ≤ 32001) × (room ≤ 2100) }
 {
     let mut scratch = used_scratch();
     let mut out = used_output();
-    by_pack_in(pack, m, control, t, &mut scratch[..size], &mut out[..room]);
+    by_pack_in(
+        rt,
+        pack,
+        m,
+        control,
+        t,
+        &mut scratch[..size],
+        &mut out[..room],
+    )
 }
 
 // Draws by a font in areas of some size.
-fn by_font(font: &[u8], control: &[u8], t: &[u8], size: usize, room: usize)
+fn by_font(
+    rt: &impl Print,
+    font: &[u8],
+    control: &[u8],
+    t: &[u8],
+    size: usize,
+    room: usize,
+) -> io::Result<()>
     requires { (size ≤ 32001) × (room ≤ 2100) }
 {
     let mut scratch = used_scratch();
     let mut out = used_output();
-    by_font_in(font, control, t, &mut scratch[..size], &mut out[..room]);
+    by_font_in(rt, font, control, t, &mut scratch[..size], &mut out[..room])
 }
 
 // The words are a layout, a direction, a control file, a scratch's size and an output's room; the rest of the line is the text.
-pub fn show_by_pack(pack: &[u8], words: &[u8]) {
+pub fn show_by_pack(rt: &(impl Files + Print), pack: &[u8], words: &[u8]) -> io::Result<()> {
     let mut buffer = [0u8; 16385];
     let second = behind(words);
     let third = behind(second);
     let fourth = behind(third);
     let fifth = behind(fourth);
-    let n = load(word_of(third), &mut buffer);
+    let n = load(rt, word_of(third), &mut buffer);
     let m = Manner {
         layout: layout_of(word_of(words)),
         direction: Direction::from_print(row_of(word_of(second))),
     };
     by_pack(
+        rt,
         pack,
         m,
         &buffer[..n],
         past_byte(behind(fifth)),
         ground::smaller(row_of(word_of(fourth)), MOST_SCRATCH),
         ground::smaller(row_of(word_of(fifth)), MOST_ROOM),
-    );
+    )
 }
 
 // The words are a control file, a scratch's size and an output's room; the rest of the line is the text.
-pub fn show_by_font(font: &[u8], words: &[u8]) {
+pub fn show_by_font(rt: &(impl Files + Print), font: &[u8], words: &[u8]) -> io::Result<()> {
     let mut buffer = [0u8; 16385];
-    let n = load(word_of(words), &mut buffer);
+    let n = load(rt, word_of(words), &mut buffer);
     let second = behind(words);
     let third = behind(second);
     let size = ground::smaller(row_of(word_of(second)), MOST_SCRATCH);
     let room = ground::smaller(row_of(word_of(third)), MOST_ROOM);
-    by_font(font, &buffer[..n], past_byte(behind(third)), size, room);
+    by_font(rt, font, &buffer[..n], past_byte(behind(third)), size, room)
 }

@@ -3,6 +3,8 @@ use crate::drawings::show_by_pack;
 use asking::printing::{named, quoted, refused, text};
 use asking::{behind, code_of, past_byte, row_of, word_of};
 use lines::words::{digit, starts_with};
+use std::io;
+use std::rt::Files;
 use subchars::Code;
 use wattleslate::{EditAnswer, FindAnswer, PackAnswer};
 
@@ -46,14 +48,15 @@ fn hex_digit(x: u8) -> u8 {
 }
 
 // A byte as it is written: a blank and two hex digits.
-fn show_byte(x: u8) {
-    text(&[b' ', hex_digit(x / 16), hex_digit(x)]);
+fn show_byte(rt: &impl Print, x: u8) -> io::Result<()> {
+    text(rt, &[b' ', hex_digit(x / 16), hex_digit(x)])
 }
 
-fn byte_at(pack: &[u8], i: usize) {
+fn byte_at(rt: &impl Print, pack: &[u8], i: usize) -> io::Result<()> {
     if i < pack.len() {
-        show_byte(pack[i]);
+        show_byte(rt, pack[i])?;
     }
+    Ok(())
 }
 
 // How many bytes there are up to the last that is not zero.
@@ -68,54 +71,55 @@ fn used_length(pack: &[u8]) -> usize {
     0
 }
 
-fn show_bytes(pack: &[u8], n: usize) {
+fn show_bytes(rt: &impl Print, pack: &[u8], n: usize) -> io::Result<()> {
     let mut i: usize = 0;
     while i < n {
-        byte_at(pack, i);
+        byte_at(rt, pack, i)?;
         i += 1;
     }
+    Ok(())
 }
 
 // All of a pack: its bytes up to the last that is not zero, and the place where the zeros behind them end.
-fn show_pack(pack: &[u8]) {
-    text(b",");
-    show_bytes(pack, used_length(pack));
-    named(b", zeros to ", pack.len());
+fn show_pack(rt: &impl Print, pack: &[u8]) -> io::Result<()> {
+    text(rt, b",")?;
+    show_bytes(rt, pack, used_length(pack))?;
+    named(rt, b", zeros to ", pack.len())
 }
 
-fn show_check(pack: &[u8]) {
+fn show_check(rt: &impl Print, pack: &[u8]) -> io::Result<()> {
     match wattleslate::pack_check(pack) {
         PackAnswer::Accepted { height, live } => {
-            named(b"height ", height);
-            named(b", live ", live);
+            named(rt, b"height ", height)?;
+            named(rt, b", live ", live)
         }
-        PackAnswer::Refused(r) => refused(r.number, r.place),
+        PackAnswer::Refused(r) => refused(rt, r.number, r.place),
     }
 }
 
 // Where a letter is, its width and its rows.
-fn show_letter(pack: &[u8], code: Code) {
+fn show_letter(rt: &impl Print, pack: &[u8], code: Code) -> io::Result<()> {
     match wattleslate::pack_find(pack, code) {
         FindAnswer::Found { place, width } => {
-            named(b"at ", place);
-            named(b", width ", width);
+            named(rt, b"at ", place)?;
+            named(rt, b", width ", width)?;
         }
-        FindAnswer::Refused(r) => refused(r.number, r.place),
+        FindAnswer::Refused(r) => refused(rt, r.number, r.place)?,
     }
-    quoted(wattleslate::pack_rows(pack, code));
+    quoted(rt, wattleslate::pack_rows(pack, code))
 }
 
 // What came of a change.
-fn show_change(answer: EditAnswer, pack: &[u8]) {
+fn show_change(rt: &impl Print, answer: EditAnswer, pack: &[u8]) -> io::Result<()> {
     match answer {
-        EditAnswer::Done => text(b"done"),
-        EditAnswer::Refused(r) => refused(r.number, r.place),
+        EditAnswer::Done => text(rt, b"done")?,
+        EditAnswer::Refused(r) => refused(rt, r.number, r.place)?,
     }
-    show_pack(pack);
+    show_pack(rt, pack)
 }
 
 // The words are a code and a width; the rest of the line is the rows.
-fn put(words: &[u8], pack: &mut [u8]) {
+fn put(rt: &impl Print, words: &[u8], pack: &mut [u8]) -> io::Result<()> {
     let second = behind(words);
     let answer = wattleslate::pack_put(
         pack,
@@ -123,59 +127,53 @@ fn put(words: &[u8], pack: &mut [u8]) {
         row_of(word_of(second)),
         past_byte(behind(second)),
     );
-    show_change(answer, pack);
+    show_change(rt, answer, pack)
 }
 
-fn remove(words: &[u8], pack: &mut [u8]) {
+fn remove(rt: &impl Print, words: &[u8], pack: &mut [u8]) -> io::Result<()> {
     let answer = wattleslate::pack_remove(pack, code_of(word_of(words)));
-    show_change(answer, pack);
+    show_change(rt, answer, pack)
 }
 
-fn compact(pack: &mut [u8]) {
+fn compact(rt: &impl Print, pack: &mut [u8]) -> io::Result<()> {
     let answer = wattleslate::pack_compact(pack);
-    show_change(answer, pack);
+    show_change(rt, answer, pack)
 }
 
 // The whole pack: the bytes of the line, and zeros behind.
-fn write(t: &[u8], pack: &mut [u8]) {
+fn write(rt: &impl Print, t: &[u8], pack: &mut [u8]) -> io::Result<()> {
     ground::zero_from(pack, 0);
     write_bytes(pack, t);
-    text(b"written");
-    show_pack(pack);
+    text(rt, b"written")?;
+    show_pack(rt, pack)
 }
 
 // A step that may change the pack.
-fn change(name: &[u8], words: &[u8], pack: &mut [u8]) {
+fn change(rt: &impl Print, name: &[u8], words: &[u8], pack: &mut [u8]) -> io::Result<()> {
     if starts_with(name, b"write") {
-        write(words, pack);
-        return;
+        return write(rt, words, pack);
     }
     if starts_with(name, b"put") {
-        put(words, pack);
-        return;
+        return put(rt, words, pack);
     }
     if starts_with(name, b"remove") {
-        remove(words, pack);
-        return;
+        return remove(rt, words, pack);
     }
-    compact(pack);
+    compact(rt, pack)
 }
 
 // The first word names the step.
-pub fn show_step(words: &[u8], pack: &mut [u8]) {
+pub fn show_step(rt: &(impl Files + Print), words: &[u8], pack: &mut [u8]) -> io::Result<()> {
     let name = word_of(words);
     let rest = behind(words);
     if starts_with(name, b"check") {
-        show_check(pack);
-        return;
+        return show_check(rt, pack);
     }
     if starts_with(name, b"find") {
-        show_letter(pack, code_of(word_of(rest)));
-        return;
+        return show_letter(rt, pack, code_of(word_of(rest)));
     }
     if starts_with(name, b"draw") {
-        show_by_pack(pack, rest);
-        return;
+        return show_by_pack(rt, pack, rest);
     }
-    change(name, rest, pack);
+    change(rt, name, rest, pack)
 }

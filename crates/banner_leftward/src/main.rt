@@ -1,6 +1,8 @@
 // The program banner on the example font with Print_Direction 1.
 #![tactic(auto)]
 
-fn main() {
-    console::run();
+use std::io;
+
+fn main(rt: HostRuntime) -> io::Result<()> {
+    console::run(&rt, &mut rt.stdin())
 }

@@ -1,6 +1,8 @@
 // The program banner with a control file of 16,385 bytes.
 #![tactic(auto)]
 
-fn main() {
-    console::run();
+use std::io;
+
+fn main(rt: HostRuntime) -> io::Result<()> {
+    console::run(&rt, &mut rt.stdin())
 }

@@ -1,6 +1,8 @@
 // The program banner on a font of 65,537 bytes, and a bad control file.
 #![tactic(auto)]
 
-fn main() {
-    console::run();
+use std::io;
+
+fn main(rt: HostRuntime) -> io::Result<()> {
+    console::run(&rt, &mut rt.stdin())
 }

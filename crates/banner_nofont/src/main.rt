@@ -1,6 +1,8 @@
 // The program banner where there is no font.
 #![tactic(auto)]
 
-fn main() {
-    console::run();
+use std::io;
+
+fn main(rt: HostRuntime) -> io::Result<()> {
+    console::run(&rt, &mut rt.stdin())
 }

@@ -1,5 +1,5 @@
-// Standard input, part by part, and the lines of each part.
-ghost use Rattle.std.specs.Prelude.{List, ℕ, ◌≤◌, length};
+// The input, part by part, and the lines of each part.
+ghost use Rattle.std.specs.Prelude.{List, ℕ, ◌≤◌, length, IfOk};
 ghost use Rattle.ground.specs.Limits.{min_scratch};
 ghost use Rattle.cutting.specs.Parts.{most_kept};
 ghost use Rattle.bothfiles.specs.Held.{FilesHeld};
@@ -8,11 +8,13 @@ use crate::printing::print_line;
 use bothfiles::Files;
 use cutting::Step;
 use ground::limits;
-use libc::STDIN_FILENO;
+use std::io;
+use std::io::{ErrorKind, Read};
 
 // Prints the lines that end in a part, where `held` bytes are kept of the line that it goes on with. Answers how many are kept of the line
 // that it leaves begun.
 fn print_part(
+    rt: &impl Print,
     part: &[u8],
     line: &mut [u8],
     held: usize,
@@ -28,10 +30,10 @@ fn print_part(
     firsts: &[i32],
     lasts: &[i32],
     news: &[i32],
-) -> usize
+) -> io::Result<usize>
     requires by_index { (control : List ℕ) × FilesHeld font.now control files codes.now starts.now widths.now places.now stages.now firsts.now lasts.now news.now }
     requires held_le_most_kept { (held ≤ most_kept) × (most_kept ≤ length line.old) × (min_scratch ≤ length area.old) }
-    ensures { result ≤ most_kept }
+    ensures { IfOk result (λ n. n ≤ most_kept) }
 {
     let mut at: usize = 0;
     let mut n = held;
@@ -40,14 +42,14 @@ fn print_part(
             Step::Ended { held: m, next } => {
                 let text = &line[..m];
                 print_line(
-                    out, area, text, font, files, codes, starts, widths, places, stages, firsts,
-                    lasts, news,
-                );
+                    rt, out, area, text, font, files, codes, starts, widths, places, stages,
+                    firsts, lasts, news,
+                )?;
                 at += next;
                 n = 0;
             }
             Step::Begun { held: m } => {
-                return m;
+                return Ok(m);
             }
         }
     }
@@ -55,6 +57,7 @@ fn print_part(
 
 // Prints the line that the end of the input leaves begun: "a last one without LF counts".
 fn print_last(
+    rt: &impl Print,
     line: &[u8],
     held: usize,
     out: &mut [u8],
@@ -69,22 +72,25 @@ fn print_last(
     firsts: &[i32],
     lasts: &[i32],
     news: &[i32],
-)
+) -> io::Result<()>
     requires by_index { (control : List ℕ) × FilesHeld font.now control files codes.now starts.now widths.now places.now stages.now firsts.now lasts.now news.now }
     requires held_in_bounds { (held ≤ length line.now) × (min_scratch ≤ length area.old) }
 {
     if 0 < held {
         let text = &line[..held];
         print_line(
-            out, area, text, font, files, codes, starts, widths, places, stages, firsts, lasts,
+            rt, out, area, text, font, files, codes, starts, widths, places, stages, firsts, lasts,
             news,
-        );
+        )?;
     }
+    Ok(())
 }
 
-// Prints each line of standard input that ends, by areas lent for its parts, its lines and their drawing. Answers how many bytes are kept of a line
-// begun at the end. Nothing says that an input ends, so the reads are counted down from a number that no run uses up.
+// Prints each line of the input that ends, by areas lent for its parts, its lines and their drawing. Answers how many bytes are kept of a line
+// begun at the end. Nothing says that an input ends, so the reads are counted up to a number that no run reaches.
 fn print_reads(
+    rt: &impl Print,
+    input: &mut impl Read,
     part: &mut [u8],
     line: &mut [u8],
     out: &mut [u8],
@@ -99,31 +105,33 @@ fn print_reads(
     firsts: &[i32],
     lasts: &[i32],
     news: &[i32],
-) -> usize
+) -> io::Result<usize>
     requires by_index { (control : List ℕ) × FilesHeld font.now control files codes.now starts.now widths.now places.now stages.now firsts.now lasts.now news.now }
     requires most_kept_in_bounds { (most_kept ≤ length line.old) × (min_scratch ≤ length area.old) }
-    ensures { result ≤ most_kept }
+    ensures { IfOk result (λ n. n ≤ most_kept) }
 {
     let mut held: usize = 0;
-    let mut turns = u64::MAX;
-    while turns > 0 {
-        let count = libc::read(STDIN_FILENO, part);
-        let n = io::count(count, part);
-        if n == 0 {
-            return held;
+    for _ in 0..u64::MAX {
+        match input.read(part) {
+            Ok(0) => break,
+            Ok(n) => {
+                let got = &part[..n];
+                held = print_part(
+                    rt, got, line, held, out, area, font, files, codes, starts, widths, places,
+                    stages, firsts, lasts, news,
+                )?;
+            }
+            Err(e) if e.kind() == ErrorKind::Interrupted => {}
+            Err(e) => return Err(e),
         }
-        let got = &part[..n];
-        held = print_part(
-            got, line, held, out, area, font, files, codes, starts, widths, places, stages, firsts,
-            lasts, news,
-        );
-        turns -= 1;
     }
-    held
+    Ok(held)
 }
 
-// Prints each line of standard input.
+// Prints each line of the input.
 pub(crate) fn print_input(
+    rt: &impl Print,
+    input: &mut impl Read,
     font: &[u8],
     files: Files,
     codes: &[i32],
@@ -134,7 +142,7 @@ pub(crate) fn print_input(
     firsts: &[i32],
     lasts: &[i32],
     news: &[i32],
-)
+) -> io::Result<()>
     requires { (control : List ℕ) × FilesHeld font.now control files codes.now starts.now widths.now places.now stages.now firsts.now lasts.now news.now }
 {
     let mut part = [0u8; 2048];
@@ -142,11 +150,11 @@ pub(crate) fn print_input(
     let mut out = [0u8; 2048];
     let mut area = [0u8; limits::MIN_SCRATCH];
     let held = print_reads(
-        &mut part, &mut line, &mut out, &mut area, font, files, codes, starts, widths, places,
-        stages, firsts, lasts, news,
-    );
+        rt, input, &mut part, &mut line, &mut out, &mut area, font, files, codes, starts, widths,
+        places, stages, firsts, lasts, news,
+    )?;
     print_last(
-        &line, held, &mut out, &mut area, font, files, codes, starts, widths, places, stages,
+        rt, &line, held, &mut out, &mut area, font, files, codes, starts, widths, places, stages,
         firsts, lasts, news,
-    );
+    )
 }

@@ -8,18 +8,14 @@ use bothfiles::Files;
 use drawing::DrawAnswer;
 use ground::refusals::Refusal;
 use ground::{limits, refusals};
-use libc::STDOUT_FILENO;
+use std::io;
 
 // Room for the largest output: 32 rows of 1,000 columns, each with its LF.
 const ROOM: usize = limits::MAX_HEIGHT * (limits::MAX_LINE_WIDTH + 1);
 
 // "A refused line prints `refused`, a blank, the number, ` at `, the place, LF."
-fn print_refusal(r: Refusal) {
-    io::write_all(STDOUT_FILENO, b"refused ");
-    io::print_decimal(STDOUT_FILENO, r.number as u64);
-    io::write_all(STDOUT_FILENO, b" at ");
-    io::print_decimal(STDOUT_FILENO, r.place as u64);
-    io::write_all(STDOUT_FILENO, b"\n");
+fn print_refusal(rt: &impl Print, r: Refusal) -> io::Result<()> {
+    println!(rt; "refused {} at {}", r.number, r.place)
 }
 
 fn height_of(files: Files) -> usize
@@ -36,16 +32,17 @@ fn height_of(files: Files) -> usize
 }
 
 // The rows of a line w wide, which lie at the start of the output.
-fn print_rows(out: &[u8], files: Files, w: usize)
+fn print_rows(rt: &impl Print, out: &[u8], files: Files, w: usize) -> io::Result<()>
     requires { RowsFit files w (length out.now) }
 {
     let h = height_of(files);
     let n = h * (w + 1);
-    io::write_all(STDOUT_FILENO, &out[..n]);
+    rt.write_all(&out[..n])
 }
 
 // Draws a line into an output that has room for every line, and prints it.
 fn print_wide(
+    rt: &impl Print,
     area: &mut [u8],
     text: &[u8],
     font: &[u8],
@@ -58,7 +55,7 @@ fn print_wide(
     firsts: &[i32],
     lasts: &[i32],
     news: &[i32],
-)
+) -> io::Result<()>
     requires by_index { (control : List ℕ) × FilesHeld font.now control files codes.now starts.now widths.now places.now stages.now firsts.now lasts.now news.now }
     requires min_scratch_in_bounds { min_scratch ≤ length area.old }
 {
@@ -67,13 +64,14 @@ fn print_wide(
         &mut out, area, text, font, files, codes, starts, widths, places, stages, firsts, lasts,
         news,
     ) {
-        DrawAnswer::Drawn { width, counts: _ } => print_rows(&out, files, width),
-        DrawAnswer::Refused(r) => print_refusal(r),
+        DrawAnswer::Drawn { width, counts: _ } => print_rows(rt, &out, files, width),
+        DrawAnswer::Refused(r) => print_refusal(rt, r),
     }
 }
 
 // Draws a line and prints it. An output with too little room is no refusal of the line: it is drawn again with more.
 pub(crate) fn print_line(
+    rt: &impl Print,
     out: &mut [u8],
     area: &mut [u8],
     text: &[u8],
@@ -87,22 +85,22 @@ pub(crate) fn print_line(
     firsts: &[i32],
     lasts: &[i32],
     news: &[i32],
-)
+) -> io::Result<()>
     requires by_index { (control : List ℕ) × FilesHeld font.now control files codes.now starts.now widths.now places.now stages.now firsts.now lasts.now news.now }
     requires min_scratch_in_bounds { min_scratch ≤ length area.old }
 {
     match bothfiles::draw_line(
         out, area, text, font, files, codes, starts, widths, places, stages, firsts, lasts, news,
     ) {
-        DrawAnswer::Drawn { width, counts: _ } => print_rows(out, files, width),
+        DrawAnswer::Drawn { width, counts: _ } => print_rows(rt, out, files, width),
         DrawAnswer::Refused(r) => {
             if r.number == refusals::AREA_TOO_SMALL {
                 print_wide(
-                    area, text, font, files, codes, starts, widths, places, stages, firsts, lasts,
-                    news,
-                );
+                    rt, area, text, font, files, codes, starts, widths, places, stages, firsts,
+                    lasts, news,
+                )
             } else {
-                print_refusal(r);
+                print_refusal(rt, r)
             }
         }
     }

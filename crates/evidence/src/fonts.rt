@@ -4,107 +4,108 @@ use asking::printing::{heading, named, number, quoted, refused, signed_named, te
 use asking::{behind, code_of, row_of, word_of};
 use ground::limits;
 use header::{Given, Header};
+use std::io;
 use subchars::{Code, Layout, Smushing};
 use wattleslate::{FontAnswer, LookUpAnswer, RowRefusal};
 
-fn given(name: &[u8], g: Given) {
-    text(name);
+fn given(rt: &impl Print, name: &[u8], g: Given) -> io::Result<()> {
+    text(rt, name)?;
     match g {
-        Given::Absent => text(b"absent"),
-        Given::Of(n) => number(n),
+        Given::Absent => text(rt, b"absent"),
+        Given::Of(n) => number(rt, n),
     }
 }
 
-fn smushing(kind: Smushing) {
+fn smushing(rt: &impl Print, kind: Smushing) -> io::Result<()> {
     match kind {
-        Smushing::Universal => text(b"universal"),
-        Smushing::Controlled(rules) => named(b"controlled ", rules as usize),
+        Smushing::Universal => text(rt, b"universal"),
+        Smushing::Controlled(rules) => named(rt, b"controlled ", rules as usize),
     }
 }
 
-fn layout(y: Layout) {
+fn layout(rt: &impl Print, y: Layout) -> io::Result<()> {
     match y {
-        Layout::FullWidth => text(b"full width"),
-        Layout::Fitting => text(b"fitting"),
-        Layout::Smushing(kind) => smushing(kind),
+        Layout::FullWidth => text(rt, b"full width"),
+        Layout::Fitting => text(rt, b"fitting"),
+        Layout::Smushing(kind) => smushing(rt, kind),
     }
 }
 
 // The five numbers that every header has, behind the hardblank.
-fn required(h: Header) {
+fn required(rt: &impl Print, h: Header) -> io::Result<()> {
     let hardblank = h.hardblank;
-    named(b", hardblank ", hardblank.0 as usize);
-    named(b", height ", h.height);
-    named(b", baseline ", h.baseline);
-    named(b", max_length ", h.max_length);
-    signed_named(b", old_layout ", h.old_layout);
-    named(b", comment_lines ", h.comment_lines);
+    named(rt, b", hardblank ", hardblank.0 as usize)?;
+    named(rt, b", height ", h.height)?;
+    named(rt, b", baseline ", h.baseline)?;
+    named(rt, b", max_length ", h.max_length)?;
+    signed_named(rt, b", old_layout ", h.old_layout)?;
+    named(rt, b", comment_lines ", h.comment_lines)
 }
 
 // The numbers that a header may have, and the layout.
-fn optional(h: Header) {
+fn optional(rt: &impl Print, h: Header) -> io::Result<()> {
     let direction = h.print_direction;
     let full = h.full_layout;
     let tags = h.codetag_count;
     let y = h.layout;
-    given(b", print_direction ", direction);
-    given(b", full_layout ", full);
-    given(b", codetag_count ", tags);
-    text(b", ");
-    layout(y);
+    given(rt, b", print_direction ", direction)?;
+    given(rt, b", full_layout ", full)?;
+    given(rt, b", codetag_count ", tags)?;
+    text(rt, b", ")?;
+    layout(rt, y)
 }
 
 // What a header says, behind the number of characters.
-fn says(count: usize, h: Header) {
-    number(count);
-    text(b" characters");
-    required(h);
-    optional(h);
+fn says(rt: &impl Print, count: usize, h: Header) -> io::Result<()> {
+    number(rt, count)?;
+    text(rt, b" characters")?;
+    required(rt, h)?;
+    optional(rt, h)
 }
 
 // What a font says, read into an index of 512 entries.
-pub(crate) fn show_font(font: &[u8]) {
+pub(crate) fn show_font(rt: &impl Print, font: &[u8]) -> io::Result<()> {
     let a = ask(font, limits::MAX_CHARACTERS, 0, Code(0), 0);
     let answer = a.answer;
     match answer {
-        FontAnswer::Read { header, count } => says(count, header),
-        FontAnswer::Refused(r) => refused(r.number, r.place),
+        FontAnswer::Read { header, count } => says(rt, count, header),
+        FontAnswer::Refused(r) => refused(rt, r.number, r.place),
     }
 }
 
 // What looking a code up came to, behind the font's name; the code is the second word.
-pub(crate) fn show_entry(font: &[u8], words: &[u8]) {
+pub(crate) fn show_entry(rt: &impl Print, font: &[u8], words: &[u8]) -> io::Result<()> {
     let word = word_of(behind(words));
-    text(word_of(words));
-    text(b" ");
-    heading(word);
+    text(rt, word_of(words))?;
+    text(rt, b" ")?;
+    heading(rt, word)?;
     match wattleslate::look_up(font, code_of(word)) {
-        LookUpAnswer::Looked(looked) => show_looked(looked),
-        LookUpAnswer::Refused(r) => refused(r.number, r.place),
+        LookUpAnswer::Looked(looked) => show_looked(rt, looked),
+        LookUpAnswer::Refused(r) => refused(rt, r.number, r.place),
     }
 }
 
 // Where a row is and its bytes, or its refusal.
-fn show_part(font: &[u8], code: Code, row: usize) {
+fn show_part(rt: &impl Print, font: &[u8], code: Code, row: usize) -> io::Result<()> {
     match wattleslate::row_refusal(font, code, row) {
         RowRefusal::NotRefused { place, width } => {
-            named(b"at ", place);
-            named(b", width ", width);
-            quoted(wattleslate::row(font, code, row));
+            named(rt, b"at ", place)?;
+            named(rt, b", width ", width)?;
+            quoted(rt, wattleslate::row(font, code, row))
         }
-        RowRefusal::Refused(r) => refused(r.number, r.place),
+        RowRefusal::Refused(r) => refused(rt, r.number, r.place),
     }
 }
 
 // A row of the character that is used for a code, behind the words that ask for it: a font's name, the code and the row's number.
-pub(crate) fn show_row(font: &[u8], words: &[u8]) {
+pub(crate) fn show_row(rt: &impl Print, font: &[u8], words: &[u8]) -> io::Result<()> {
     let second = behind(words);
     let code = word_of(second);
     let row = word_of(behind(second));
-    text(word_of(words));
-    text(b" ");
-    text(code);
-    text(b" ");
-    heading(row);
-    show_part(font, code_of(code), row_of(row));
+    text(rt, word_of(words))?;
+    text(rt, b" ")?;
+    text(rt, code)?;
+    text(rt, b" ")?;
+    heading(rt, row)?;
+    show_part(rt, font, code_of(code), row_of(row))
 }

@@ -4,6 +4,7 @@ ghost use Rattle.std.specs.Prelude.{◌<◌, ◌≤◌};
 use asking::printing::{named, number, refused, signed_named, text};
 use asking::{behind, code_of, row_of, word_of};
 use chars::Entry;
+use std::io;
 use subchars::Code;
 use wattleslate::{FontAnswer, LookedUp};
 
@@ -43,53 +44,53 @@ pub(crate) fn ask(font: &[u8], size: usize, count: usize, code: Code, place: usi
 }
 
 // An entry.
-pub(crate) fn show(e: Entry) {
+pub(crate) fn show(rt: &impl Print, e: Entry) -> io::Result<()> {
     let code = e.code;
-    signed_named(b"code ", code.0);
-    named(b", start ", e.start);
-    named(b", width ", e.width);
+    signed_named(rt, b"code ", code.0)?;
+    named(rt, b", start ", e.start)?;
+    named(rt, b", width ", e.width)
 }
 
 // Which of three a look-up came to.
-pub(crate) fn show_looked(looked: LookedUp) {
+pub(crate) fn show_looked(rt: &impl Print, looked: LookedUp) -> io::Result<()> {
     match looked {
         LookedUp::Found(e) => {
-            text(b"found ");
-            show(e);
+            text(rt, b"found ")?;
+            show(rt, e)
         }
         LookedUp::StoodIn(e) => {
-            text(b"stood in ");
-            show(e);
+            text(rt, b"stood in ")?;
+            show(rt, e)
         }
-        LookedUp::Nothing => text(b"nothing"),
+        LookedUp::Nothing => text(rt, b"nothing"),
     }
 }
 
-fn show_answer(answer: FontAnswer) {
+fn show_answer(rt: &impl Print, answer: FontAnswer) -> io::Result<()> {
     match answer {
         FontAnswer::Read { header: _, count } => {
-            number(count);
-            text(b" characters");
+            number(rt, count)?;
+            text(rt, b" characters")
         }
-        FontAnswer::Refused(r) => refused(r.number, r.place),
+        FontAnswer::Refused(r) => refused(rt, r.number, r.place),
     }
 }
 
 // The answer of reading the font, what the look-up came to, and the entry at the place.
-fn show_asked(a: Asked, place: usize) {
+fn show_asked(rt: &impl Print, a: Asked, place: usize) -> io::Result<()> {
     let answer = a.answer;
     let looked = a.looked;
     let entry = a.entry;
-    show_answer(answer);
-    text(b"; ");
-    show_looked(looked);
-    named(b"; at ", place);
-    text(b": ");
-    show(entry);
+    show_answer(rt, answer)?;
+    text(rt, b"; ")?;
+    show_looked(rt, looked)?;
+    named(rt, b"; at ", place)?;
+    text(rt, b": ")?;
+    show(rt, entry)
 }
 
 // The words are a size, a count, a code and a place: the answer of reading the font, what looking the code up came to, and the entry at the place.
-pub(crate) fn show_index(font: &[u8], words: &[u8]) {
+pub(crate) fn show_index(rt: &impl Print, font: &[u8], words: &[u8]) -> io::Result<()> {
     let size = ground::smaller(row_of(word_of(words)), MOST);
     let second = behind(words);
     let third = behind(second);
@@ -101,5 +102,5 @@ pub(crate) fn show_index(font: &[u8], words: &[u8]) {
         code_of(word_of(third)),
         place,
     );
-    show_asked(a, place);
+    show_asked(rt, a, place)
 }

@@ -5,6 +5,7 @@ use asking::lent::{MOST_ROOM, show_output, used_output};
 use asking::printing::{named, refused};
 use asking::{behind, first_block, hardblank_of, past_byte, row_of, second_block, word_of};
 use ground::limits;
+use std::io;
 use subchars::{Direction, Layout, Smushing, SubCharacter};
 use wattleslate::JoinAnswer;
 
@@ -34,41 +35,58 @@ fn layout_of(word: &[u8]) -> Layout {
     Layout::from_full(n)
 }
 
-fn show_answer(answer: JoinAnswer) {
+fn show_answer(rt: &impl Print, answer: JoinAnswer) -> io::Result<()> {
     match answer {
         JoinAnswer::Joined { overlap, width } => {
-            named(b"overlap ", overlap);
-            named(b", width ", width);
+            named(rt, b"overlap ", overlap)?;
+            named(rt, b", width ", width)
         }
-        JoinAnswer::Refused(r) => refused(r.number, r.place),
+        JoinAnswer::Refused(r) => refused(rt, r.number, r.place),
     }
 }
 
 // Joins, and shows what came of it.
-fn join_in(m: Manner, s: Shape, line: &[u8], character: &[u8], out: &mut [u8]) {
+fn join_in(
+    rt: &impl Print,
+    m: Manner,
+    s: Shape,
+    line: &[u8],
+    character: &[u8],
+    out: &mut [u8],
+) -> io::Result<()> {
     let layout = m.layout;
     let direction = m.direction;
     let hardblank = m.hardblank;
-    show_answer(wattleslate::join(
-        line,
-        s.line,
-        character,
-        s.character,
-        s.height,
-        hardblank,
-        layout,
-        direction,
-        out,
-    ));
-    show_output(out);
+    show_answer(
+        rt,
+        wattleslate::join(
+            line,
+            s.line,
+            character,
+            s.character,
+            s.height,
+            hardblank,
+            layout,
+            direction,
+            out,
+        ),
+    )?;
+    show_output(rt, out)
 }
 
 // Joins in an area of some size.
-fn join(m: Manner, s: Shape, line: &[u8], character: &[u8], room: usize)
+fn join(
+    rt: &impl Print,
+    m: Manner,
+    s: Shape,
+    line: &[u8],
+    character: &[u8],
+    room: usize,
+) -> io::Result<()>
     requires { room ≤ 2100 }
 {
     let mut out = used_output();
-    join_in(m, s, line, character, &mut out[..room]);
+    join_in(rt, m, s, line, character, &mut out[..room])
 }
 
 // Three words: a layout, a direction and a hardblank.
@@ -96,7 +114,7 @@ fn behind_three(words: &[u8]) -> &[u8] {
 }
 
 // The words say how the blocks are joined, their shape, the area's size and the length of the line's block; the blocks follow.
-pub(crate) fn show_join(words: &[u8]) {
+pub(crate) fn show_join(rt: &impl Print, words: &[u8]) -> io::Result<()> {
     let shape = behind_three(words);
     let area = behind_three(shape);
     let length = behind(area);
@@ -104,10 +122,11 @@ pub(crate) fn show_join(words: &[u8]) {
     let n = row_of(word_of(length));
     let t = past_byte(behind(length));
     join(
+        rt,
         manner_of(words),
         shape_of(shape),
         first_block(t, n),
         second_block(t, n),
         room,
-    );
+    )
 }

@@ -8,91 +8,96 @@ mod indexes;
 mod joins;
 
 use asking::printing::{heading, text};
-use asking::{behind, load, shortened, word_of};
-use libc::STDIN_FILENO;
+use asking::{behind, load, read_full, shortened, word_of};
 use lines::{Cursor, LineStep, words};
+use std::io;
+use std::rt::Files;
 
 // Requests about a font; the answer begins with the font's name, or with the request.
-fn about_font(line: &[u8], font: &[u8]) {
+fn about_font(rt: &impl Print, line: &[u8], font: &[u8]) -> io::Result<()> {
     let arguments = behind(line);
     if words::starts_with(line, b"read ") {
-        heading(word_of(arguments));
-        fonts::show_font(font);
+        heading(rt, word_of(arguments))?;
+        fonts::show_font(rt, font)?;
     }
     if words::starts_with(line, b"look ") {
-        fonts::show_entry(font, arguments);
+        fonts::show_entry(rt, font, arguments)?;
     }
     if words::starts_with(line, b"row ") {
-        fonts::show_row(font, arguments);
+        fonts::show_row(rt, font, arguments)?;
     }
     if words::starts_with(line, b"index ") {
-        heading(line);
-        indexes::show_index(font, behind(arguments));
+        heading(rt, line)?;
+        indexes::show_index(rt, font, behind(arguments))?;
     }
+    Ok(())
 }
 
 // Requests about a control file; the answer begins with the request.
-fn about_control(line: &[u8], control: &[u8]) {
+fn about_control(rt: &impl Print, line: &[u8], control: &[u8]) -> io::Result<()> {
     if words::starts_with(line, b"control ") {
-        heading(line);
-        controls::show_control(control);
+        heading(rt, line)?;
+        controls::show_control(rt, control)?;
     }
     if words::starts_with(line, b"short ") {
-        heading(line);
-        controls::show_short(control);
+        heading(rt, line)?;
+        controls::show_short(rt, control)?;
     }
     if words::starts_with(line, b"map ") {
-        heading(line);
-        controls::show_map(control, word_of(behind(behind(line))));
+        heading(rt, line)?;
+        controls::show_map(rt, control, word_of(behind(behind(line))))?;
     }
+    Ok(())
 }
 
 // A request for a drawing; the answer begins with the request, of which 64 bytes are shown.
-fn about_drawing(line: &[u8], font: &[u8]) {
+fn about_drawing(rt: &(impl Files + Print), line: &[u8], font: &[u8]) -> io::Result<()> {
     if words::starts_with(line, b"draw ") {
-        heading(shortened(line));
-        drawings::show_drawing(font, behind(behind(line)));
+        heading(rt, shortened(line))?;
+        drawings::show_drawing(rt, font, behind(behind(line)))?;
     }
+    Ok(())
 }
 
 // A request for a join; the answer begins with the request, of which 64 bytes are shown.
-fn about_join(line: &[u8]) {
+fn about_join(rt: &impl Print, line: &[u8]) -> io::Result<()> {
     if words::starts_with(line, b"join ") {
-        heading(shortened(line));
-        joins::show_join(behind(line));
+        heading(rt, shortened(line))?;
+        joins::show_join(rt, behind(line))?;
     }
+    Ok(())
 }
 
 // One request: a word, a file's name, and for some a code and a row.
-fn request(line: &[u8]) {
+fn request(rt: &(impl Files + Print), line: &[u8]) -> io::Result<()> {
     let mut buffer = [0u8; 65537];
-    let n = load(word_of(behind(line)), &mut buffer);
+    let n = load(rt, word_of(behind(line)), &mut buffer);
     let file = &buffer[..n];
-    about_font(line, file);
-    about_control(line, file);
-    about_drawing(line, file);
-    about_join(line);
-    text(b"\n");
+    about_font(rt, line, file)?;
+    about_control(rt, line, file)?;
+    about_drawing(rt, line, file)?;
+    about_join(rt, line)?;
+    text(rt, b"\n")
 }
 
 // The requests of a text, a line each.
-fn requests(t: &[u8]) {
+fn requests(rt: &(impl Files + Print), t: &[u8]) -> io::Result<()> {
     let mut cursor = Cursor::new();
     loop {
         match cursor.next(t) {
             LineStep::Line { start, end, next } => {
-                request(&t[start..end]);
+                request(rt, &t[start..end])?;
                 cursor = next;
             }
             LineStep::NoLine => {
-                return;
+                return Ok(());
             }
         }
     }
 }
 
-fn main() {
+fn main(rt: HostRuntime) -> io::Result<()> {
     let mut buffer = [0u8; 20480];
-    let n = io::read_full(STDIN_FILENO, &mut buffer);
-    requests(&buffer[..n]);
+    let n = read_full(&mut rt.stdin(), &mut buffer)?;
+    requests(&rt, &buffer[..n])
 }

@@ -5,6 +5,8 @@ use asking::lent::{MOST_SCRATCH, show_scratch, used_scratch};
 use asking::printing::{named, refused, text};
 use asking::{behind, load, past_byte, row_of, word_of};
 use lines::words::starts_with;
+use std::io;
+use std::rt::Files;
 use wattleslate::CheckAnswer;
 
 // The array of which a list of overlaps is lent.
@@ -40,57 +42,76 @@ fn count_of(word: &[u8]) -> usize
     ground::smaller(word.len(), MOST_OVERLAPS)
 }
 
-fn show_answer(answer: CheckAnswer) {
+fn show_answer(rt: &impl Print, answer: CheckAnswer) -> io::Result<()> {
     match answer {
-        CheckAnswer::Accepted => text(b"accepted"),
-        CheckAnswer::WrongOverlap(k) => named(b"wrong overlap ", k),
-        CheckAnswer::WrongByte(place) => named(b"wrong byte ", place),
-        CheckAnswer::Refused(r) => refused(r.number, r.place),
+        CheckAnswer::Accepted => text(rt, b"accepted"),
+        CheckAnswer::WrongOverlap(k) => named(rt, b"wrong overlap ", k),
+        CheckAnswer::WrongByte(place) => named(rt, b"wrong byte ", place),
+        CheckAnswer::Refused(r) => refused(rt, r.number, r.place),
     }
 }
 
 // Checks, and shows what came of it.
 fn check_in(
+    rt: &impl Print,
     font: &[u8],
     control: &[u8],
     t: &[u8],
     figure: &[u8],
     overlaps: &[usize],
     scratch: &mut [u8],
-) {
-    show_answer(wattleslate::check_drawing(font, control, t, figure, overlaps, scratch));
-    show_scratch(scratch);
+) -> io::Result<()> {
+    show_answer(
+        rt,
+        wattleslate::check_drawing(font, control, t, figure, overlaps, scratch),
+    )?;
+    show_scratch(rt, scratch)
 }
 
 // Checks with a list and in a scratch of some size.
-fn check(font: &[u8], control: &[u8], t: &[u8], figure: &[u8], list: &[u8], size: usize)
+fn check(
+    rt: &impl Print,
+    font: &[u8],
+    control: &[u8],
+    t: &[u8],
+    figure: &[u8],
+    list: &[u8],
+    size: usize,
+) -> io::Result<()>
     requires { size ≤ 32001 }
 {
     let overlaps = overlaps_of(list);
     let mut scratch = used_scratch();
     check_in(
+        rt,
         font,
         control,
         t,
         figure,
         &overlaps[..count_of(list)],
         &mut scratch[..size],
-    );
+    )
 }
 
 // The words are a control file, a scratch's size and a list of overlaps; the rest of the line is the text.
-pub(crate) fn show_check(font: &[u8], figure: &[u8], words: &[u8]) {
+pub(crate) fn show_check(
+    rt: &(impl Files + Print),
+    font: &[u8],
+    figure: &[u8],
+    words: &[u8],
+) -> io::Result<()> {
     let mut buffer = [0u8; 16385];
-    let n = load(word_of(words), &mut buffer);
+    let n = load(rt, word_of(words), &mut buffer);
     let second = behind(words);
     let third = behind(second);
     let size = ground::smaller(row_of(word_of(second)), MOST_SCRATCH);
     check(
+        rt,
         font,
         &buffer[..n],
         past_byte(behind(third)),
         figure,
         word_of(third),
         size,
-    );
+    )
 }

@@ -7,55 +7,63 @@ mod drawings;
 mod parts;
 
 use asking::printing::{heading, text};
-use asking::{behind, load, shortened, word_of};
-use libc::STDIN_FILENO;
+use asking::{behind, load, read_full, shortened, word_of};
 use lines::words::starts_with;
 use lines::{Cursor, LineStep};
+use std::io;
+use std::rt::Files;
 
 // A request about two fonts, or about a font and a FIGure; the words are those behind their names.
-fn about_files<'a>(line: &[u8], first: &'a [u8], second: &'a [u8], words: &[u8]) {
+fn about_files<'a>(
+    rt: &(impl Files + Print),
+    line: &[u8],
+    first: &'a [u8],
+    second: &'a [u8],
+    words: &[u8],
+) -> io::Result<()> {
     if starts_with(line, b"check ") {
-        checks::show_check(first, second, words);
+        checks::show_check(rt, first, second, words)?;
     }
     if starts_with(line, b"draw ") {
-        drawings::show_drawing(first, second, words);
+        drawings::show_drawing(rt, first, second, words)?;
     }
     if starts_with(line, b"row ") {
-        parts::show_row(first, second, words);
+        parts::show_row(rt, first, second, words)?;
     }
+    Ok(())
 }
 
 // One request: a word, the names of two files, and what is asked of them. The answer begins with the request, of which 64 bytes are shown.
-fn request(line: &[u8]) {
+fn request(rt: &(impl Files + Print), line: &[u8]) -> io::Result<()> {
     let mut buffer = [0u8; 65537];
     let mut other = [0u8; 65537];
     let names = behind(line);
     let rest = behind(names);
-    let n = load(word_of(names), &mut buffer);
-    let m = load(word_of(rest), &mut other);
-    heading(shortened(line));
-    about_files(line, &buffer[..n], &other[..m], behind(rest));
-    text(b"\n");
+    let n = load(rt, word_of(names), &mut buffer);
+    let m = load(rt, word_of(rest), &mut other);
+    heading(rt, shortened(line))?;
+    about_files(rt, line, &buffer[..n], &other[..m], behind(rest))?;
+    text(rt, b"\n")
 }
 
 // The requests of a text, a line each.
-fn requests(t: &[u8]) {
+fn requests(rt: &(impl Files + Print), t: &[u8]) -> io::Result<()> {
     let mut cursor = Cursor::new();
     loop {
         match cursor.next(t) {
             LineStep::Line { start, end, next } => {
-                request(&t[start..end]);
+                request(rt, &t[start..end])?;
                 cursor = next;
             }
             LineStep::NoLine => {
-                return;
+                return Ok(());
             }
         }
     }
 }
 
-fn main() {
+fn main(rt: HostRuntime) -> io::Result<()> {
     let mut buffer = [0u8; 32768];
-    let n = io::read_full(STDIN_FILENO, &mut buffer);
-    requests(&buffer[..n]);
+    let n = read_full(&mut rt.stdin(), &mut buffer)?;
+    requests(&rt, &buffer[..n])
 }

@@ -7,86 +7,87 @@ mod texts;
 mod wraps;
 
 use asking::printing::{heading, text};
-use asking::{behind, load, row_of, shortened, word_of};
+use asking::{behind, load, read_full, row_of, shortened, word_of};
 use asking_packs::{drawings, packs};
-use libc::STDIN_FILENO;
 use lines::words::starts_with;
 use lines::{Cursor, LineStep};
+use std::io;
+use std::rt::Files;
 
 // Two texts, by the font that the request names.
-fn about_texts(words: &[u8]) {
+fn about_texts(rt: &(impl Files + Print), words: &[u8]) -> io::Result<()> {
     let mut buffer = [0u8; 65537];
-    let n = load(word_of(words), &mut buffer);
-    texts::show_texts(&buffer[..n], behind(words));
+    let n = load(rt, word_of(words), &mut buffer);
+    texts::show_texts(rt, &buffer[..n], behind(words))
 }
 
 // A text in lines, by the font that the request names.
-fn about_lines(words: &[u8]) {
+fn about_lines(rt: &(impl Files + Print), words: &[u8]) -> io::Result<()> {
     let mut buffer = [0u8; 65537];
-    let n = load(word_of(words), &mut buffer);
-    wraps::show_lines(&buffer[..n], behind(words));
+    let n = load(rt, word_of(words), &mut buffer);
+    wraps::show_lines(rt, &buffer[..n], behind(words))
 }
 
 // A text, by the font that the request names.
-fn about_font(words: &[u8]) {
+fn about_font(rt: &(impl Files + Print), words: &[u8]) -> io::Result<()> {
     let mut buffer = [0u8; 65537];
-    let n = load(word_of(words), &mut buffer);
-    drawings::show_by_font(&buffer[..n], behind(words));
+    let n = load(rt, word_of(words), &mut buffer);
+    drawings::show_by_font(rt, &buffer[..n], behind(words))
 }
 
 // A request about a pack: the first word says how many bytes of it are lent.
-fn about_pack(words: &[u8], pack: &mut [u8]) {
+fn about_pack(rt: &(impl Files + Print), words: &[u8], pack: &mut [u8]) -> io::Result<()> {
     let size = ground::smaller(row_of(word_of(words)), pack.len());
-    packs::show_step(behind(words), &mut pack[..size]);
+    packs::show_step(rt, behind(words), &mut pack[..size])
 }
 
 // A request for a stack of two blocks or of two texts, or for a text in lines or in one line.
-fn about_blocks_and_texts(line: &[u8]) {
+fn about_blocks_and_texts(rt: &(impl Files + Print), line: &[u8]) -> io::Result<()> {
     if starts_with(line, b"stack ") {
-        stacks::show_stack(behind(line));
+        stacks::show_stack(rt, behind(line))?;
     }
     if starts_with(line, b"texts ") {
-        about_texts(behind(line));
+        about_texts(rt, behind(line))?;
     }
     if starts_with(line, b"lines ") {
-        about_lines(behind(line));
+        about_lines(rt, behind(line))?;
     }
     if starts_with(line, b"font ") {
-        about_font(behind(line));
+        about_font(rt, behind(line))?;
     }
+    Ok(())
 }
 
 // A request of those kinds, or about the pack that is kept from request to request; the answer begins with the request, of which 64 bytes are shown.
-fn request(line: &[u8], pack: &mut [u8]) {
-    heading(shortened(line));
+fn request(rt: &(impl Files + Print), line: &[u8], pack: &mut [u8]) -> io::Result<()> {
+    heading(rt, shortened(line))?;
     if starts_with(line, b"pack ") {
-        about_pack(behind(line), pack);
-        text(b"\n");
-        return;
+        about_pack(rt, behind(line), pack)?;
+        return text(rt, b"\n");
     }
-    about_blocks_and_texts(line);
-    text(b"\n");
+    about_blocks_and_texts(rt, line)?;
+    text(rt, b"\n")
 }
 
 // The requests of a text, a line each.
-fn requests(t: &[u8], pack: &mut [u8]) {
+fn requests(rt: &(impl Files + Print), t: &[u8], pack: &mut [u8]) -> io::Result<()> {
     let mut cursor = Cursor::new();
     loop {
         match cursor.next(t) {
             LineStep::Line { start, end, next } => {
-                request(&t[start..end], pack);
+                request(rt, &t[start..end], pack)?;
                 cursor = next;
             }
             LineStep::NoLine => {
-                return;
+                return Ok(());
             }
         }
     }
 }
 
-fn main() {
+fn main(rt: HostRuntime) -> io::Result<()> {
     let mut buffer = [0u8; 65536];
     let mut pack = [0u8; 65537];
-    let n = io::read_full(STDIN_FILENO, &mut buffer);
-    requests(&buffer[..n], &mut pack);
+    let n = read_full(&mut rt.stdin(), &mut buffer)?;
+    requests(&rt, &buffer[..n], &mut pack)
 }

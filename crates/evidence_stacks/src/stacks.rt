@@ -5,6 +5,7 @@ use asking::lent::{MOST_ROOM, show_output, used_output};
 use asking::printing::{named, refused};
 use asking::{behind, first_block, hardblank_of, past_byte, row_of, second_block, word_of};
 use ground::limits;
+use std::io;
 use subchars::{SubCharacter, VerticalLayout, VerticalSmushing};
 use wattleslate::StackAnswer;
 
@@ -28,64 +29,74 @@ fn layout_of(word: &[u8]) -> VerticalLayout {
 }
 
 // The numbers of a stack.
-pub(crate) fn show_numbers(overlap: usize, height: usize, width: usize) {
-    named(b"overlap ", overlap);
-    named(b", height ", height);
-    named(b", width ", width);
+pub(crate) fn show_numbers(
+    rt: &impl Print,
+    overlap: usize,
+    height: usize,
+    width: usize,
+) -> io::Result<()> {
+    named(rt, b"overlap ", overlap)?;
+    named(rt, b", height ", height)?;
+    named(rt, b", width ", width)
 }
 
-fn show_answer(answer: StackAnswer) {
+fn show_answer(rt: &impl Print, answer: StackAnswer) -> io::Result<()> {
     match answer {
         StackAnswer::Stacked {
             overlap,
             height,
             width,
-        } => show_numbers(overlap, height, width),
-        StackAnswer::Refused(r) => refused(r.number, r.place),
+        } => show_numbers(rt, overlap, height, width),
+        StackAnswer::Refused(r) => refused(rt, r.number, r.place),
     }
 }
 
 // Stacks, and shows what came of it.
 fn stack_in(
+    rt: &impl Print,
     layout: VerticalLayout,
     hardblank: SubCharacter,
     s: Shape,
     upper: &[u8],
     lower: &[u8],
     out: &mut [u8],
-) {
-    show_answer(wattleslate::stack(
-        upper,
-        s.upper_width,
-        s.upper_height,
-        lower,
-        s.lower_width,
-        s.lower_height,
-        hardblank,
-        layout,
-        out,
-    ));
-    show_output(out);
+) -> io::Result<()> {
+    show_answer(
+        rt,
+        wattleslate::stack(
+            upper,
+            s.upper_width,
+            s.upper_height,
+            lower,
+            s.lower_width,
+            s.lower_height,
+            hardblank,
+            layout,
+            out,
+        ),
+    )?;
+    show_output(rt, out)
 }
 
 // Stacks in an area of some size.
 fn stack(
+    rt: &impl Print,
     layout: VerticalLayout,
     hardblank: SubCharacter,
     s: Shape,
     upper: &[u8],
     lower: &[u8],
     room: usize,
-)
+) -> io::Result<()>
     requires { room ≤ 2100 }
 {
     let mut out = used_output();
-    stack_in(layout, hardblank, s, upper, lower, &mut out[..room]);
+    stack_in(rt, layout, hardblank, s, upper, lower, &mut out[..room])
 }
 
 // The words say how the blocks are stacked (layout, hardblank), their shape (height and width of the upper one, then of the lower one), the area's size and
 // the length of the upper block; the blocks follow, with a byte between.
-pub(crate) fn show_stack(words: &[u8]) {
+pub(crate) fn show_stack(rt: &impl Print, words: &[u8]) -> io::Result<()> {
     let second = behind(words);
     let third = behind(second);
     let fourth = behind(third);
@@ -103,11 +114,12 @@ pub(crate) fn show_stack(words: &[u8]) {
     let length = row_of(word_of(eighth));
     let t = past_byte(behind(eighth));
     stack(
+        rt,
         layout_of(word_of(words)),
         hardblank_of(word_of(second)),
         s,
         first_block(t, length),
         second_block(t, length),
         room,
-    );
+    )
 }

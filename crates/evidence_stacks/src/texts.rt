@@ -5,6 +5,8 @@ use crate::stacks::show_numbers;
 use asking::lent::{MOST_ROOM, show_output, show_scratch, used_output};
 use asking::printing::{counted, refused};
 use asking::{behind, first_block, load, past_byte, row_of, second_block, word_of};
+use std::io;
+use std::rt::Files;
 use wattleslate::LinesAnswer;
 
 // The array of which a scratch is lent.
@@ -15,7 +17,7 @@ fn used_scratch() -> [u8; MOST_SCRATCH] {
     [9u8; MOST_SCRATCH]
 }
 
-fn show_answer(answer: LinesAnswer) {
+fn show_answer(rt: &impl Print, answer: LinesAnswer) -> io::Result<()> {
     match answer {
         LinesAnswer::Drawn {
             overlap,
@@ -23,47 +25,60 @@ fn show_answer(answer: LinesAnswer) {
             width,
             counts,
         } => {
-            show_numbers(overlap, height, width);
-            counted(counts.stood_in, counts.nothing_drawn);
+            show_numbers(rt, overlap, height, width)?;
+            counted(rt, counts.stood_in, counts.nothing_drawn)
         }
-        LinesAnswer::Refused(r) => refused(r.number, r.place),
+        LinesAnswer::Refused(r) => refused(rt, r.number, r.place),
     }
 }
 
 // Draws, and shows what came of it.
 fn draw_in(
+    rt: &impl Print,
     font: &[u8],
     control: &[u8],
     upper: &[u8],
     lower: &[u8],
     scratch: &mut [u8],
     out: &mut [u8],
-) {
-    show_answer(wattleslate::draw_stacked(font, control, upper, lower, scratch, out));
-    show_output(out);
-    show_scratch(scratch);
+) -> io::Result<()> {
+    show_answer(
+        rt,
+        wattleslate::draw_stacked(font, control, upper, lower, scratch, out),
+    )?;
+    show_output(rt, out)?;
+    show_scratch(rt, scratch)
 }
 
 // Draws in areas of some size.
-fn draw(font: &[u8], control: &[u8], upper: &[u8], lower: &[u8], size: usize, room: usize)
+fn draw(
+    rt: &impl Print,
+    font: &[u8],
+    control: &[u8],
+    upper: &[u8],
+    lower: &[u8],
+    size: usize,
+    room: usize,
+) -> io::Result<()>
     requires { (size ≤ 64001) × (room ≤ 2100) }
 {
     let mut scratch = used_scratch();
     let mut out = used_output();
     draw_in(
+        rt,
         font,
         control,
         upper,
         lower,
         &mut scratch[..size],
         &mut out[..room],
-    );
+    )
 }
 
 // The words are a control file, a scratch's size, an output's room and the length of the upper text; the texts follow, with a byte between.
-pub(crate) fn show_texts(font: &[u8], words: &[u8]) {
+pub(crate) fn show_texts(rt: &(impl Files + Print), font: &[u8], words: &[u8]) -> io::Result<()> {
     let mut buffer = [0u8; 16385];
-    let n = load(word_of(words), &mut buffer);
+    let n = load(rt, word_of(words), &mut buffer);
     let second = behind(words);
     let third = behind(second);
     let fourth = behind(third);
@@ -72,11 +87,12 @@ pub(crate) fn show_texts(font: &[u8], words: &[u8]) {
     let length = row_of(word_of(fourth));
     let t = past_byte(behind(fourth));
     draw(
+        rt,
         font,
         &buffer[..n],
         first_block(t, length),
         second_block(t, length),
         size,
         room,
-    );
+    )
 }

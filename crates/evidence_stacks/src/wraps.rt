@@ -5,6 +5,8 @@ ghost use Rattle.std.specs.Prelude.{◌≤◌};
 use asking::lent::{MOST_ROOM, MOST_SCRATCH, show_output, show_scratch, used_output, used_scratch};
 use asking::printing::{counted, named, refused, text};
 use asking::{behind, load, past_byte, row_of, word_of};
+use std::io;
+use std::rt::Files;
 use wattleslate::WrapAnswer;
 
 // The array of which a list is lent.
@@ -16,39 +18,41 @@ fn used_list() -> [usize; MOST_LINES] {
 }
 
 // Tells the answer, and gives how many lines there are.
-fn show_answer(answer: WrapAnswer) -> usize {
+fn show_answer(rt: &impl Print, answer: WrapAnswer) -> io::Result<usize> {
     match answer {
         WrapAnswer::Wrapped { lines, counts } => {
-            named(b"lines ", lines);
-            counted(counts.stood_in, counts.nothing_drawn);
-            lines
+            named(rt, b"lines ", lines)?;
+            counted(rt, counts.stood_in, counts.nothing_drawn)?;
+            Ok(lines)
         }
         WrapAnswer::Refused(r) => {
-            refused(r.number, r.place);
-            0
+            refused(rt, r.number, r.place)?;
+            Ok(0)
         }
     }
 }
 
 // A place of a list, as far as the list has it.
-fn place_at(name: &[u8], list: &[usize], i: usize) {
+fn place_at(rt: &impl Print, name: &[u8], list: &[usize], i: usize) -> io::Result<()> {
     if i < list.len() {
-        named(name, list[i]);
+        named(rt, name, list[i])?;
     }
+    Ok(())
 }
 
 // The i-th line: its first byte, and the place behind its last.
-fn line_at(firsts: &[usize], ends: &[usize], i: usize) {
-    place_at(b", ", firsts, i);
-    place_at(b" to ", ends, i);
+fn line_at(rt: &impl Print, firsts: &[usize], ends: &[usize], i: usize) -> io::Result<()> {
+    place_at(rt, b", ", firsts, i)?;
+    place_at(rt, b" to ", ends, i)
 }
 
-fn show_places(firsts: &[usize], ends: &[usize], n: usize) {
+fn show_places(rt: &impl Print, firsts: &[usize], ends: &[usize], n: usize) -> io::Result<()> {
     let mut i: usize = 0;
     while i < n {
-        line_at(firsts, ends, i);
+        line_at(rt, firsts, ends, i)?;
         i += 1;
     }
+    Ok(())
 }
 
 // Whether a list is all zeros from place n on.
@@ -64,18 +68,18 @@ fn zeros_from(list: &[usize], n: usize) -> bool {
 }
 
 // Tells whether the lists are all zeros behind the first n places.
-fn show_rest(firsts: &[usize], ends: &[usize], n: usize) {
+fn show_rest(rt: &impl Print, firsts: &[usize], ends: &[usize], n: usize) -> io::Result<()> {
     if zeros_from(firsts, n) {
         if zeros_from(ends, n) {
-            text(b", then zeros");
-            return;
+            return text(rt, b", then zeros");
         }
     }
-    text(b", then NOT all zeros");
+    text(rt, b", then NOT all zeros")
 }
 
 // Draws, and shows what came of it.
 fn draw_in(
+    rt: &impl Print,
     font: &[u8],
     control: &[u8],
     t: &[u8],
@@ -84,17 +88,18 @@ fn draw_in(
     firsts: &mut [usize],
     ends: &mut [usize],
     out: &mut [u8],
-) {
+) -> io::Result<()> {
     let answer = wattleslate::draw_wrapped(font, control, t, limit, scratch, firsts, ends, out);
-    let n = show_answer(answer);
-    show_places(firsts, ends, n);
-    show_rest(firsts, ends, n);
-    show_output(out);
-    show_scratch(scratch);
+    let n = show_answer(rt, answer)?;
+    show_places(rt, firsts, ends, n)?;
+    show_rest(rt, firsts, ends, n)?;
+    show_output(rt, out)?;
+    show_scratch(rt, scratch)
 }
 
 // Draws in areas of some size.
 fn draw(
+    rt: &impl Print,
     font: &[u8],
     control: &[u8],
     t: &[u8],
@@ -103,7 +108,7 @@ fn draw(
     end_room: usize,
     size: usize,
     room: usize,
-)
+) -> io::Result<()>
     requires { (first_room ≤ 1025) × (end_room ≤ 1025) × (size ≤ 32001) × (room ≤ 2100) }
 {
     let mut scratch = used_scratch();
@@ -111,6 +116,7 @@ fn draw(
     let mut ends = used_list();
     let mut out = used_output();
     draw_in(
+        rt,
         font,
         control,
         t,
@@ -119,16 +125,17 @@ fn draw(
         &mut firsts[..first_room],
         &mut ends[..end_room],
         &mut out[..room],
-    );
+    )
 }
 
 // The words are the limit, the lengths of both lists, a scratch's size and an output's room; the rest of the line is the text.
-fn show_text(font: &[u8], control: &[u8], words: &[u8]) {
+fn show_text(rt: &impl Print, font: &[u8], control: &[u8], words: &[u8]) -> io::Result<()> {
     let second = behind(words);
     let third = behind(second);
     let fourth = behind(third);
     let fifth = behind(fourth);
     draw(
+        rt,
         font,
         control,
         past_byte(behind(fifth)),
@@ -137,12 +144,12 @@ fn show_text(font: &[u8], control: &[u8], words: &[u8]) {
         ground::smaller(row_of(word_of(third)), MOST_LINES),
         ground::smaller(row_of(word_of(fourth)), MOST_SCRATCH),
         ground::smaller(row_of(word_of(fifth)), MOST_ROOM),
-    );
+    )
 }
 
 // The first word is a control file.
-pub(crate) fn show_lines(font: &[u8], words: &[u8]) {
+pub(crate) fn show_lines(rt: &(impl Files + Print), font: &[u8], words: &[u8]) -> io::Result<()> {
     let mut buffer = [0u8; 16385];
-    let n = load(word_of(words), &mut buffer);
-    show_text(font, &buffer[..n], behind(words));
+    let n = load(rt, word_of(words), &mut buffer);
+    show_text(rt, font, &buffer[..n], behind(words))
 }
