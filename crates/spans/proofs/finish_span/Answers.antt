@@ -11,7 +11,10 @@ returns-then-end-kept c =
 
 pub returns : goal.returns
 returns c =
-    let a = c.args in record { end_value = refl; by_index = λ x o at out q.
+    let a = c.args in record {
+      end_value = refl;
+      by_index = λ x o at out q.
           let line = line_by a.drawer.mode a.drawer.height x.source x.held.commands x.held.count in
           held-line a.drawer.mode a.drawer.height line a.drawer.limit a.text.now a.b at a.sought.end _ c.join_text-drawn.new.area out q.end
-          (drawn_again a.drawer.mode a.drawer.height line a.drawer.limit a.text.now a.b o a.sought.end _ c.join_text-drawn.new.area q.end (c.join_text-drawn.ensures x.source x.given x.control x.held).line) }
+          (drawn_again a.drawer.mode a.drawer.height line a.drawer.limit a.text.now a.b o a.sought.end _ c.join_text-drawn.new.area q.end (c.join_text-drawn.ensures x.source x.given x.control x.held).line);
+    }

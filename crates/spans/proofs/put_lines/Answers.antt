@@ -1,6 +1,6 @@
 use mathlib.Core.Path.{refl, ◌∙◌}
 use mathlib.Core.List.{List}
-use Prim.Native.Nat.{ℕ, ◌-◌, ◌+◌, ◌≤◌, ◌<◌}
+use Prim.Native.Nat.{ℕ, ◌+◌, ◌≤◌, ◌<◌}
 use native.Mathlib.Nat.{mul-le-mul_right}
 use native.Mathlib.Omega.{arith}
 use lib.ListN.{length, length-set}
@@ -13,7 +13,7 @@ use Rattle.spans.specs.Steps.{DrawsBy, SpanDrawn}
 use Rattle.breaks.proofs.WordLaws.{behind_le, word_before}
 use Rattle.spans.proofs.SpanLaws.{span_facts}
 use Rattle.spans.proofs.PuttingLaws.{put_none, put_next, put_end, no_room, opens_at}
-use Rattle.spans.proofs.put_lines.Goals.{After-draw_span-arg-in-loop-p-1, After-draw_span-line}
+use Rattle.spans.proofs.put_lines.Goals.{After-draw_span-line}
 use Rattle.spans.proofs.put_lines.Goals as goal
 
 -- The line that was drawn at the next word.
@@ -22,7 +22,7 @@ Drawn = After-draw_span-line
 
 abbrev DrawsAt : Drawn → Type 0
 DrawsAt c =
-    let a = c.before.before.before.before.before.before.before.before.before.before.before.before.before.before.before.before.before.before.before.args in
+    let a = c.args in
     DrawsBy a.drawer a.font.now a.codes.now a.starts.now a.widths.now a.places.now a.stages.now a.firsts.now a.lasts.now a.news.now
 
 abbrev line_of : (c : Drawn) → DrawsAt c → List ℕ → Block
@@ -84,23 +84,23 @@ returns-then-out-bytes c =
     omega (arith, r, l.invariant.2)
 
 pub put_span-requires : goal.put_span-requires
-put_span-requires c = ((facts (goal.at.put_span-requires c).After-draw_span-arg-in-loop-p-1).3, (facts (goal.at.put_span-requires c).After-draw_span-arg-in-loop-p-1).2, omega (arith, c.requires.limit_le_max_line_width.1, c.loop-p.invariant.3), omega (arith, c.if-out-bytes.false, c.loop-p.invariant.4))
+put_span-requires c = ((facts (goal.at.put_span-requires c).After-draw_span-line).3, (facts (goal.at.put_span-requires c).After-draw_span-line).2, omega (arith, c.requires.limit_le_max_line_width.1, c.loop-p.invariant.3), omega (arith, c.if-out-bytes.false, c.loop-p.invariant.4))
 
 pub bounds-line_firsts-lines : goal.bounds-line_firsts-lines
-bounds-line_firsts-lines c = (listed (goal.at.bounds-line_firsts-lines c).After-draw_span-arg-in-loop-p-1).0
+bounds-line_firsts-lines c = (listed (goal.at.bounds-line_firsts-lines c).After-draw_span-line).0
 
 pub bounds-line_ends-lines : goal.bounds-line_ends-lines
-bounds-line_ends-lines c = (listed (goal.at.bounds-line_ends-lines c).After-draw_span-arg-in-loop-p-1).1
+bounds-line_ends-lines c = (listed (goal.at.bounds-line_ends-lines c).After-draw_span-line).1
 
 pub loop-p-smaller : goal.loop-p-smaller
-loop-p-smaller c = omega (arith, (facts (goal.at.loop-p-smaller c).After-draw_span-arg-in-loop-p-1).0, c.loop-p-test.true)
+loop-p-smaller c = omega (arith, (facts (goal.at.loop-p-smaller c).After-draw_span-line).0, c.loop-p-test.true)
 
 pub loop-p-preserved : goal.loop-p-preserved
 loop-p-preserved c =
     let a = c.args in
     let l = c.loop-p in
-    let f = facts (goal.at.loop-p-preserved c).After-draw_span-arg-in-loop-p-1 in
-    let n = listed (goal.at.loop-p-preserved c).After-draw_span-arg-in-loop-p-1 in (
+    let f = facts (goal.at.loop-p-preserved c).After-draw_span-line in
+    let n = listed (goal.at.loop-p-preserved c).After-draw_span-line in (
       length-set l.line_firsts l.lines c.word_from-b.result ∙ l.invariant.0,
       length-set l.line_ends l.lines c.draw_span-line.result.end ∙ l.invariant.1,
       omega (arith, l.invariant.2),
@@ -109,8 +109,8 @@ loop-p-preserved c =
       f.1,
       omega (arith, f.0, l.invariant.6),
       λ x none.
-          let q = spanned (goal.at.loop-p-preserved c).After-draw_span-arg-in-loop-p-1 x none in
-          put_next a.drawer.mode.hardblank.0 a.drawer.height (line_by a.drawer.mode a.drawer.height x.source x.held.commands x.held.count) a.text.now a.drawer.limit none l.p l.lines l.bytes l.line_firsts l.line_ends l.out (l.invariant.7 x none) (before-end (goal.at.loop-p-preserved c).After-draw_span-arg-in-loop-p-1) c.word_from-b.result c.draw_span-line.result.end c.draw_span-line.result.width c.word_from-b.ensures q.end q.ready.width n.0 n.1 c.draw_span-line.new.out c.draw_span-line.ensures.out_unchanged c.put_span.new.out (c.put_span.ensures _ q.ready),
+          let q = spanned (goal.at.loop-p-preserved c).After-draw_span-line x none in
+          put_next a.drawer.mode.hardblank.0 a.drawer.height (line_by a.drawer.mode a.drawer.height x.source x.held.commands x.held.count) a.text.now a.drawer.limit none l.p l.lines l.bytes l.line_firsts l.line_ends l.out (l.invariant.7 x none) (before-end (goal.at.loop-p-preserved c).After-draw_span-line) c.word_from-b.result c.draw_span-line.result.end c.draw_span-line.result.width c.word_from-b.ensures q.end q.ready.width n.0 n.1 c.draw_span-line.new.out c.draw_span-line.ensures.out_unchanged c.put_span.new.out (c.put_span.ensures _ q.ready),
     )
 
 pub returns : goal.returns

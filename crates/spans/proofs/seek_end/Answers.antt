@@ -1,6 +1,6 @@
 use mathlib.Core.Path.{refl, sym, subst, ◌∙◌}
 use mathlib.Core.List.{List}
-use Prim.Native.Nat.{ℕ, ◌-◌, ◌<◌}
+use Prim.Native.Nat.{ℕ, ◌<◌}
 use native.Mathlib.Omega.{arith}
 use lib.ListN.{length}
 use Rattle.source.proofs.CharacterLaws.{given-high}
@@ -41,15 +41,19 @@ pub returns-then-limit-w : goal.returns-then-limit-w
 returns-then-limit-w c =
     let a = c.args in
     let l = c.loop-i in
-    let in-text : l.i < length a.text.now = omega (arith, c.loop-i-test.true, c.requires.b_lt_stop.1, behind_le a.text.now) in record { out_unchanged = l.invariant.5; b_le_end = sought_between a.text.now a.b l.i l.last l.n l.auto _ c.line_sought.ensures l.invariant.3 a.drawer.limit l.invariant.0; sought_from = λ x o.
-            let line = line_by a.drawer.mode a.drawer.height x.source x.held.commands x.held.count in
-            let z = picked_in_one _ _ _ _ _ (c.choose_byte-picked.ensures x.source x.given x.control x.held) in
-            let so = (l.invariant.6 x).0 in
-            sought_so a.text.now a.b l.i l.last l.n l.auto _ c.line_sought.ensures a.drawer.mode a.drawer.height line a.drawer.limit a.at c.draw_chosen-w.new.area l.out
-            (found-beyond (wide_in line a.text.now) a.drawer.limit a.text.now (part_grows a.drawer.mode a.drawer.height x.source x.held.commands x.held.count a.text.now) a.b o l.i l.last l.invariant.3 (omega (arith, so.width, l.invariant.0)) in-text
-            (held-beyond a.drawer.mode a.drawer.height x.source x.held.commands x.held.count a.text.now a.b a.drawer.limit l.area l.n l.i so l.invariant.3.low in-text c.draw_chosen-w.new.area _ (c.draw_chosen-w.ensures.reached _ z) c.if-limit-w.true))
-            (subst (λ (d : List ℕ). HeldTo a.drawer.mode a.drawer.height x.source x.held.commands x.held.count a.text.now a.b a.drawer.limit d l.n l.i) (sym (c.draw_chosen-w.ensures.area_unchanged c.if-limit-w.true)) so)
-            (l.invariant.6 x).1 }
+    let in-text : l.i < length a.text.now = omega (arith, c.loop-i-test.true, c.requires.b_lt_stop.1, behind_le a.text.now) in record {
+      out_unchanged = l.invariant.5;
+      b_le_end = sought_between a.text.now a.b l.i l.last l.n l.kept _ c.line_sought.ensures l.invariant.3 a.drawer.limit l.invariant.0;
+      sought_from = λ x o.
+          let line = line_by a.drawer.mode a.drawer.height x.source x.held.commands x.held.count in
+          let z = picked_in_one _ _ _ _ _ (c.choose_byte-picked.ensures x.source x.given x.control x.held) in
+          let so = (l.invariant.6 x).0 in
+          sought_so a.text.now a.b l.i l.last l.n l.kept _ c.line_sought.ensures a.drawer.mode a.drawer.height line a.drawer.limit a.at c.draw_chosen-w.new.area l.out
+          (found-beyond (wide_in line a.text.now) a.drawer.limit a.text.now (part_grows a.drawer.mode a.drawer.height x.source x.held.commands x.held.count a.text.now) a.b o l.i l.last l.invariant.3 (omega (arith, so.width, l.invariant.0)) in-text
+          (held-beyond a.drawer.mode a.drawer.height x.source x.held.commands x.held.count a.text.now a.b a.drawer.limit l.area l.n l.i so l.invariant.3.low in-text c.draw_chosen-w.new.area _ (c.draw_chosen-w.ensures.reached _ z) c.if-limit-w.true))
+          (subst (λ (d : List ℕ). HeldTo a.drawer.mode a.drawer.height x.source x.held.commands x.held.count a.text.now a.b a.drawer.limit d l.n l.i) (sym (c.draw_chosen-w.ensures.area_unchanged c.if-limit-w.true)) so)
+          (l.invariant.6 x).1;
+    }
 
 pub last_end-last-requires : goal.last_end-last-requires
 last_end-last-requires c = (omega arith, omega (arith, c.loop-i-test.true, c.requires.b_lt_stop.1, behind_le c.args.text.now))
@@ -81,9 +85,13 @@ pub returns : goal.returns
 returns c =
     let a = c.args in
     let l = c.loop-i in
-    let p = c.requires.b_lt_stop in record { out_unchanged = l.invariant.5; b_le_end = sought_between a.text.now a.b l.i l.last l.n l.auto _ c.line_sought-2.ensures l.invariant.3 a.drawer.limit l.invariant.0; sought_from = λ x o.
-            let line = line_by a.drawer.mode a.drawer.height x.source x.held.commands x.held.count in
-            sought_so a.text.now a.b l.i l.last l.n l.auto _ c.line_sought-2.ensures a.drawer.mode a.drawer.height line a.drawer.limit a.at l.area l.out
-            (found-last (wide_in line a.text.now) a.drawer.limit a.text.now (part_grows a.drawer.mode a.drawer.height x.source x.held.commands x.held.count a.text.now) a.b o l.i l.last l.invariant.3 (omega (arith, (l.invariant.6 x).0.width, l.invariant.0)) (omega (arith, c.loop-i-test.false, p.1)) (omega (arith, p.0, p.1)))
-            (l.invariant.6 x).0
-            (l.invariant.6 x).1 }
+    let p = c.requires.b_lt_stop in record {
+      out_unchanged = l.invariant.5;
+      b_le_end = sought_between a.text.now a.b l.i l.last l.n l.kept _ c.line_sought-2.ensures l.invariant.3 a.drawer.limit l.invariant.0;
+      sought_from = λ x o.
+          let line = line_by a.drawer.mode a.drawer.height x.source x.held.commands x.held.count in
+          sought_so a.text.now a.b l.i l.last l.n l.kept _ c.line_sought-2.ensures a.drawer.mode a.drawer.height line a.drawer.limit a.at l.area l.out
+          (found-last (wide_in line a.text.now) a.drawer.limit a.text.now (part_grows a.drawer.mode a.drawer.height x.source x.held.commands x.held.count a.text.now) a.b o l.i l.last l.invariant.3 (omega (arith, (l.invariant.6 x).0.width, l.invariant.0)) (omega (arith, c.loop-i-test.false, p.1)) (omega (arith, p.0, p.1)))
+          (l.invariant.6 x).0
+          (l.invariant.6 x).1;
+    }

@@ -1,4 +1,5 @@
 -- `spans::seek_end` meets its contract. The invariant: the area holds the text from b as far as it was drawn, where a word ended last is known, and what was
+-- kept of the line stands in the output.
 use mathlib.Core.Path.{◌≡◌}
 use Prim.Native.Nat.{◌-◌, ◌≤◌}
 use lib.ListN.{length, take}
@@ -9,7 +10,6 @@ use Rattle.spans.proofs.DrawnLaws.{HeldTo}
 use Rattle.spans.proofs.SearchLaws.{Scanned}
 use Rattle.spans.proofs.seek_end.Given as goal
 
--- kept of the line stands in the output.
 abbrev pub invariant-loop-i : goal.invariant-loop-i
 invariant-loop-i l =
     (l.n ≤ l.drawer.limit) × (length l.area ≡ length l.initial.area) × (length l.found ≡ max_height) × Scanned l.text l.b l.i l.last ×
