@@ -54,10 +54,12 @@ module _ (f : Format) (size : ℕ) where
 
   after_tag : (c : Code) (more : Listing) (t : TextLine) (ls : List TextLine) (es : List Entry) → tag_of t.text ≡ Tag c →
       (more.ending ≡ finished → Coded f [] (drop (line_count f) ls) more.entries) → ReadThen f c more ls es → Coded f [] (t ∷ ls) es
+  after_tag c more t [] es p g x = elim x [ ]
   after_tag c more t (l ∷ ls) _ p g (then e a b r q) = tag {t = t} {l = l} {e = e} (p ∙ ap Tag (sym a)) b r (g q)
 
   after_required : (k : ℕ) (cs : List ℕ) (more : Listing) (ls : List TextLine) (es : List Entry) →
       (more.ending ≡ finished → Coded f cs (drop (line_count f) ls) more.entries) → ReadThen f (code (pos k)) more ls es → Coded f (k ∷ cs) ls es
+  after_required k cs more [] es g x = elim x [ ]
   after_required k cs more (l ∷ ls) _ g (then e a b r q) = required {l = l} {e = e} a b r (g q)
 
   tagged_coded : (k n : ℕ) (ls : List TextLine) → (tagged_from f size k n ls).ending ≡ finished → Coded f [] (drop k ls) (tagged_from f size k n ls).entries
@@ -91,12 +93,18 @@ module _ (f : Format) (size : ℕ) where
 
 -- They stand in file order.
 pub coded_ordered : (f : Format) (cs : List ℕ) (ls : List TextLine) (es : List Entry) → Coded f cs ls es → InOrder f ls es
+coded_ordered f [] [] (e ∷ es) x = elim x [ ]
+coded_ordered f [] (t ∷ []) (e ∷ es) x = elim x [ ]
+coded_ordered f (c ∷ cs) [] es x = elim x [ ]
+coded_ordered f (c ∷ cs) (l ∷ ls) [] x = elim x [ ]
 coded_ordered f (c ∷ cs) (l ∷ ls) (e ∷ es) (required a b r s) = here b r (coded_ordered f cs (drop (line_count f) (l ∷ ls)) es s)
 coded_ordered f [] (t ∷ l ∷ ls) (e ∷ es) (tag p b r s) = further (here b r (coded_ordered f [] (drop (line_count f) (l ∷ ls)) es s))
 coded_ordered f [] ls [] (end b) = none
 
 -- The codes of the first characters are the required ones, in order.
 pub coded_first : (f : Format) (cs : List ℕ) (ls : List TextLine) (es : List Entry) → Coded f cs ls es → map (λ (e : Entry). e.code) (take (length cs) es) ≡ map (λ (c : ℕ). code (pos c)) cs
+coded_first f (c ∷ cs) [] es s = elim s [ ]
+coded_first f (c ∷ cs) (l ∷ ls) [] s = elim s [ ]
 coded_first f (c ∷ cs) (l ∷ ls) (e ∷ es) (required a b r s) = ap (λ (x : Code). x ∷ map (λ (e : Entry). e.code) (take (length cs) es)) a ∙ ap (λ (xs : List Code). code (pos c) ∷ xs) (coded_first f cs (drop (line_count f) (l ∷ ls)) es s)
 coded_first f [] ls es s = refl
 
@@ -122,6 +130,10 @@ tagged_dropped (suc k) (l ∷ ls) es h = tagged-beyond l ls es (tagged_dropped k
 pub coded_others : (f : Format) (cs : List ℕ) (ls : List TextLine) (es : List Entry) → Coded f cs ls es → EachTagged ls (drop (length cs) es)
 coded_others f (c ∷ cs) (l ∷ ls) (e ∷ es) (required a b r s) =
     tagged_dropped (line_count f) (l ∷ ls) (drop (length cs) es) (coded_others f cs (drop (line_count f) (l ∷ ls)) es s)
+coded_others f [] [] (e ∷ es) x = elim x [ ]
+coded_others f [] (t ∷ []) (e ∷ es) x = elim x [ ]
+coded_others f (c ∷ cs) [] es x = elim x [ ]
+coded_others f (c ∷ cs) (l ∷ ls) [] x = elim x [ ]
 coded_others f [] (t ∷ l ∷ ls) (e ∷ es) (tag p b r s) =
     one_more (behind {t = t} {l = l} p b) (tagged-beyond t (l ∷ ls) es (tagged_dropped (line_count f) (l ∷ ls) es (coded_others f [] (drop (line_count f) (l ∷ ls)) es s)))
 coded_others f [] ls [] (end b) = no_more

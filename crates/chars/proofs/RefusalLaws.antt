@@ -162,6 +162,7 @@ module _ (f : Format) (size : ℕ) where
   -- by no other number, at a place within the font or at its end
   pub characters-inside : (cs : List ℕ) (n : ℕ) (ls : List TextLine) (r : Refusal) → Starting size ls → CharactersStop f size cs n ls r →
       (missing_line ≤ r.number) × (r.number ≤ too_many_characters) × (r.place ≤ size)
+  characters-inside [] n [] r t x = elim x [ ]
   characters-inside (c ∷ cs) n ls r t (in_required s) = let k = character_inside f size ls r t s in (k.0, omega (arith, k.1), k.2)
   characters-inside (c ∷ cs) n ls r t (past_required w e s) = characters-inside cs (suc n) (drop (line_count f) ls) r (start_dropped size (line_count f) ls t) s
   characters-inside [] n (l ∷ ls) _ t (bad_tag m b) = (omega arith, omega arith, start_first size l ls t)

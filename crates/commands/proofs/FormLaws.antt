@@ -281,6 +281,7 @@ from_comment (x ∷ xs) w = ⊎_elim only_blanks (λ v. subst (λ (u : List ℕ)
 
 to_extended : (t : List ℕ) → LineForm t Extended → IsExtended t
 unfolding is_extended
+to_extended [] x' = elim x' [ ]
 to_extended (x ∷ xs) (extended e) = (x, xs, refl, e)
 
 from_extended : (t : List ℕ) → IsExtended t → LineForm t Extended
@@ -288,6 +289,7 @@ unfolding is_extended
 from_extended t w = subst (λ (u : List ℕ). LineForm u Extended) (sym w.2) (extended {xs = w.1} w.3)
 
 to_stage : (t : List ℕ) → LineForm t NewStage → IsStage t
+to_stage [] x' = elim x' [ ]
 to_stage (x ∷ xs) (stage e) = (xs, ap (λ (y : ℕ). y ∷ xs) e)
 
 from_stage : (t : List ℕ) → IsStage t → LineForm t NewStage
@@ -307,6 +309,7 @@ from_mapping t a b c w =
     begins_t kind xs e f = subst (λ (u : List ℕ). LineForm u kind) (sym e) f
 
 to_ranges : (t : List ℕ) → LineForm t BadRanges → IsBadRanges t
+to_ranges [] x' = elim x' [ ]
 to_ranges (x ∷ xs) (bad_ranges_lem {first = a} {last = b} {firstNew = c} {lastNew = d} p h w g) = (a, b, c, d, (xs, ap (λ (y : ℕ). y ∷ xs) p, h, w), go g)
   where
     go : RangesBad a b c d → (le_z a.0 b.0 ≡ false) ⊎ (le_z c.0 d.0 ≡ false) ⊎ (nat_abs (b.0 -ℤ a.0) ≡ nat_abs (d.0 -ℤ c.0) → ⊥)

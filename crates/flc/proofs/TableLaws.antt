@@ -76,6 +76,7 @@ module _ (s : List ℕ) where
   -- ---------------------------------------------------------------- a refusal is of its row
 
   commands-met : (stage n : ℕ) (ls : List TextLine) (r : Refusal) → Reaches s stage n ls → CommandsStop stage n ls r → Row r
+  commands-met stage n [] r c x'' = elim x'' [ ]
   commands-met stage n (l ∷ ls) _ c (stops.not_command e) =
       let w = (no_command_exactly l.text).0 e in (stage, n, l, ls, refl, c, w.0, w.1, w.2, w.3, w.4)
   commands-met stage n (l ∷ ls) _ c (stops.bad_ranges_lem e) = (stage, n, l, ls, refl, c, (bad_ranges_exactly l.text).0 e)

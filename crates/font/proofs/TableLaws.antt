@@ -109,6 +109,7 @@ module _ (s : List ℕ) where
   -- ---------------------------------------------------------------- a refusal is of its row
 
   rows-met : (h : Header) (n k w : ℕ) (ls : List TextLine) (r : Refusal) → Comes s h (more_rows n k w) ls → RowsStop (format h) size w k ls r → Row r
+  rows-met h n zero w ls r c x = elim x [ ]
   rows-met h n (suc k) w [] _ c other-missing = (refl, h, inr (inr (n, k, w, c)))
   rows-met h n (suc k) w (l ∷ ls) _ c (other_bad b) = (h, l, ls, refl, inr (n, k, w, c, (row_exactly (format h) w l.text).0 b))
   rows-met h n (suc k) w (l ∷ ls) r c (past_other e t) = rows-met h n k w ls r (past_row c e) t
@@ -159,6 +160,7 @@ module _ (s : List ℕ) where
   characters-met h (x ∷ cs) n ls r e c (stops.past_required w q t) =
       let k = still n x cs e in
       characters-met h cs (suc n) (drop (line_count (format h)) ls) r k.1 (character_passed h n w ls (required c k.0) q) t
+  characters-met h [] n [] r e c x = elim x [ ]
   characters-met h [] n (l ∷ ls) _ e c (stops.bad_tag m b) = (h, n, l, ls, refl, c, none n e, m, (code_exactly l.text).0 b)
   characters-met h [] n (l ∷ ls) _ e c (stops.too_many t u) = (h, n, l, ls, refl, c, u, t.more, t.code, t.names)
   characters-met h [] n (l ∷ ls) r e c (stops.in_tagged t u x) = character_met h n ls r (past_tag c (none n e) u t.more t.code t.names) x

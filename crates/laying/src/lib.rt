@@ -120,7 +120,7 @@ fn copy_eight(out: &mut [u8], at: usize, s: &[u8], from: usize)
 fn copy_eights(area: &mut [u8], at: usize, s: &[u8], starts: &[usize], q: usize, h: usize) -> usize
     requires h_le_max_height { (h ≤ max_height) × (at + 8 ≤ max_line_width) × (min_scratch ≤ length area.old) }
     requires rows_in { RowsIn s.now starts.now q h }
-    ensures* { λ r. ⌜ (r ≤ h) × StoredTo (λ (r j : ℕ). from_on s.now (get_or starts.now r 0 + q) j) r at 8 area.old area.new ⌝ }
+    ensures { (result ≤ h) × StoredTo (λ (r j : ℕ). from_on s.now (get_or starts.now r 0 + q) j) result at 8 area.old area.new }
 {
     let mut r: usize = 0;
     while r < h {

@@ -76,6 +76,7 @@ pub record Begins (f : Format) (s : List ℕ) (at : ℕ) (e : Entry) : Type 0 wh
 
 stand_begins : (f : Format) (s : List ℕ) (e : Entry) (ls : List TextLine) (at : ℕ) → lines_from s at ≡ ls → Stands f e ls → Begins f s at e
 unfolding after
+stand_begins f s e [] at p x = elim x [ ]
 stand_begins f s e (l ∷ ls) at p (here q a) =
     let i = some-line s at (omega (arith, ap length p)) in
     let z : line at (text_at s at) ∷ lines_from s (next_start s at) ≡ l ∷ ls = sym (lines_next s at i) ∙ p in

@@ -1,6 +1,6 @@
 -- `index::find` meets its contract. The invariant: the last place of the code is its last place among the first k codes.
 use mathlib.Core.Path.{◌≡◌}
-use Prim.Native.Nat.{◌≤◌, ◌-◌}
+use Prim.Native.Nat.{◌≤◌}
 use lib.ListN.{length, take}
 use Rattle.index.specs.LookUp.{last_at}
 use Rattle.index.proofs.find.Given as goal

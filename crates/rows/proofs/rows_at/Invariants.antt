@@ -1,7 +1,5 @@
 -- `rows::rows_at` meets its contract. The invariant: what is left to read from the cursor on decides.
 use mathlib.Core.Path.{◌≡◌}
-use Prim.Native.Nat.{◌-◌}
-use Rattle.lines.specs.Lines.{cursor}
 use Rattle.rows.specs.Steps.{rows_at}
 use Rattle.rows.proofs.rows_at.Given as goal
 

@@ -1,7 +1,7 @@
 -- `rows::trimmed_length` meets its contract: a byte above 32 at the end is neither blank nor tab. The invariant: from n on all bytes are blanks and tabs.
 use mathlib.Core.Path.{◌≡◌}
 use mathlib.Core.Bool.{true}
-use Prim.Native.Nat.{◌≤◌, ◌-◌}
+use Prim.Native.Nat.{◌≤◌}
 use lib.ListN.{length, drop}
 use Rattle.ground.specs.Runs.{all}
 use Rattle.lines.specs.Words.{is_blank}
