@@ -1,0 +1,14 @@
+-- `capi::packs::layout_by` meets its contract, for every input.
+use mathlib.Core.Path.{sym, ap, ◌∙◌}
+use mathlib.Core.Bool.{Bool, cond}
+use Rattle.subchars.specs.Layouts.{full_layout_of}
+use Rattle.capi.specs.Numbers.{shapeless, layout_by}
+use Rattle.capi.proofs.packs.layout_by.Goals as goal
+
+pub returns-then-both : goal.returns-then-both
+unfolding layout_by
+returns-then-both c = c.from_full.ensures ∙ sym (ap (λ (b : Bool). cond b (full_layout_of c.args.layout) shapeless) (sym c.both.ensures ∙ c.if-both.true))
+
+pub returns : goal.returns
+unfolding layout_by
+returns c = sym (ap (λ (b : Bool). cond b (full_layout_of c.args.layout) shapeless) (sym c.both.ensures ∙ c.if-both.false))
