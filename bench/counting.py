@@ -11,7 +11,7 @@ COMPILER = os.environ.get("CC", "cc")
 
 def library():
     """The static library: the one that is named, or the one that is built here."""
-    return os.path.abspath(sys.argv[1]) if len(sys.argv) > 1 else os.path.join(TOP, "target", "staticlib", "libcapi.a")
+    return os.path.abspath(sys.argv[1]) if len(sys.argv) > 1 else os.path.join(TOP, "crates", "capi", "out", "libcapi.a")
 
 
 def missing_packages(*packages):
@@ -25,7 +25,7 @@ def missing(path, *packages):
     if not shutil.which(COMPILER):
         lacks.append("a C compiler: install one, or name it by CC")
     if not os.path.exists(path):
-        lacks.append(f"{path}: build it by `rt staticlib capi`")
+        lacks.append(f"{path}: build it by `rt lib` in crates/capi")
     return lacks
 
 

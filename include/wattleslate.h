@@ -1,4 +1,4 @@
-/* The calls of Wattleslate for programs in C: link target/staticlib/libcapi.a, which `rt staticlib capi` writes.
+/* The calls of Wattleslate for programs in C: link crates/capi/out/libcapi.a, which `rt lib` in crates/capi writes.
  *
  * Every call ends, tests its own input and answers one number. Nothing is asked of the input but what C itself asks: a pointer and the length behind it are
  * those of an area of that many bytes, or of a list of that many entries where they are `size_t`; a pointer is not NULL even where the length is 0, and an area

@@ -3,8 +3,8 @@ import os
 import subprocess
 
 TOP = os.path.dirname(os.path.dirname(os.path.abspath(__file__)))
-BANNER = os.path.join(TOP, "target", "bin", "banner")
-LIBRARY = os.path.join(TOP, "target", "staticlib", "libcapi.a")
+BANNER = os.path.join(TOP, "crates", "banner", "out", "banner")
+LIBRARY = os.path.join(TOP, "crates", "capi", "out", "libcapi.a")
 REQUIRED = [*range(32, 127), 196, 214, 220, 228, 246, 252, 223]  # the codes that every font has, in their order
 
 

@@ -33,7 +33,7 @@ pub fn read_full(input: &mut impl Read, buffer: &mut [u8]) -> io::Result<usize>
     Ok(done)
 }
 
-// Reads a file of the folder; one that is not there, or that cannot be read, is empty.
+// Reads a file of the folder; one that is not there, or that cannot be read, is empty. A name that is no UTF-8 names no file.
 pub fn load(files: &impl Files, name: &[u8], buffer: &mut [u8]) -> usize
     ensures { IsPrefixLen result buffer.new }
 {

@@ -4,7 +4,7 @@ use lib.ListN.{length}
 use Rattle.evidence.proofs.requests.Given as goal
 
 abbrev pub invariant-loop-start : goal.invariant-loop-start
-invariant-loop-start l = Unit {0}
+invariant-loop-start g l = Unit {0}
 
 abbrev pub decreases-loop-start : goal.decreases-loop-start
-decreases-loop-start l = length l.t - l.cursor.at
+decreases-loop-start g l = length l.t - l.cursor.at

@@ -5,7 +5,7 @@ use lib.ListN.{length}
 use Rattle.evidence_stacks.proofs.requests.Given as goal
 
 abbrev pub invariant-loop-start : goal.invariant-loop-start
-invariant-loop-start l = length l.pack ≡ length l.initial.pack
+invariant-loop-start g l = length l.pack ≡ length l.initial.pack
 
 abbrev pub decreases-loop-start : goal.decreases-loop-start
-decreases-loop-start l = length l.t - l.cursor.at
+decreases-loop-start g l = length l.t - l.cursor.at

@@ -6,9 +6,9 @@ use Rattle.cutting.specs.Parts.{most_kept}
 use Rattle.console.proofs.input.print_part.Given as goal
 
 abbrev pub invariant-loop-m : goal.invariant-loop-m
-invariant-loop-m l =
+invariant-loop-m g l =
     (l.at ≤ length l.part) × (l.n ≤ most_kept) × (length l.line ≡ length l.initial.line) × (length l.out ≡ length l.initial.out) × (length l.area ≡ length l.initial.area)
 
 abbrev pub decreases-loop-m : goal.decreases-loop-m
-decreases-loop-m l =
+decreases-loop-m g l =
     length l.part - l.at
