@@ -33,7 +33,26 @@ pub fn read_full(input: &mut impl Read, buffer: &mut [u8]) -> io::Result<usize>
     Ok(done)
 }
 
-// Reads a file of the folder; one that is not there, or that cannot be read, is empty. A name that is no UTF-8 names no file.
+// Reads until a buffer is full, or the file ends or fails, and tells how many bytes it put at the start of the buffer.
+fn read_start(file: &mut impl Read, buffer: &mut [u8]) -> usize
+    ensures { IsPrefixLen result buffer.new }
+{
+    let mut done: usize = 0;
+    for _ in 0..u64::MAX {
+        if done == buffer.len() {
+            return done;
+        }
+        match file.read(&mut buffer[done..]) {
+            Ok(0) => return done,
+            Ok(n) => done += n,
+            Err(e) if e.kind() == ErrorKind::Interrupted => {}
+            Err(_) => return done,
+        }
+    }
+    done
+}
+
+// Reads a file of the folder; one that is not there is empty. A name that is no UTF-8 names no file.
 pub fn load(files: &impl Files, name: &[u8], buffer: &mut [u8]) -> usize
     ensures { IsPrefixLen result buffer.new }
 {
@@ -41,7 +60,7 @@ pub fn load(files: &impl Files, name: &[u8], buffer: &mut [u8]) -> usize
         return 0;
     };
     match fs::open(files, path) {
-        Ok(mut file) => read_full(&mut file, buffer).unwrap_or(0),
+        Ok(mut file) => read_start(&mut file, buffer),
         Err(_) => 0,
     }
 }
