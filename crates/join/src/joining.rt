@@ -4,18 +4,18 @@ ghost use Rattle.blocks.specs.Block.{exact_block};
 ghost use Rattle.join.specs.Shape.{Sized};
 ghost use Rattle.join.specs.JoinCall.{Refuses, BlocksGive, JoinGives};
 
-use crate::{JoinAnswer, shape};
-use ground::refusals::Refusal;
-use ground::{limits, refusals};
+use crate::{Joined, shape};
+use ground::limits;
+use ground::refusals::{Reason, Refusal};
 use lanes::View;
 use subchars::{Direction, Mode};
 
 // A refusal, with zeros all through the area.
-fn refuse(number: usize, out: &mut [u8]) -> JoinAnswer
-    ensures { Refuses number (length out.old) result out.new }
+fn refuse(reason: Reason, out: &mut [u8]) -> Result<Joined, Refusal>
+    ensures { Refuses reason (length out.old) result out.new }
 {
     ground::zero_from(out, 0);
-    JoinAnswer::Refused(Refusal { number, place: 0 })
+    Err(Refusal::of(reason))
 }
 
 // Joins two blocks of h rows, the left one n wide and the right one m.
@@ -27,7 +27,7 @@ fn join_blocks(
     right: &[u8],
     m: usize,
     out: &mut [u8],
-) -> JoinAnswer
+) -> Result<Joined, Refusal>
     requires sized { Sized h n left.now }
     requires sized_2 { Sized h m right.now }
     ensures { BlocksGive mode h (exact_block n left.now) (exact_block m right.now) (length out.old) result out.new }
@@ -47,17 +47,17 @@ fn join_blocks(
     let o = overlap::overlap_of(mode, left, &a_starts, a, right, &b_starts, b, h);
     let w = n + m - o;
     if limits::MAX_LINE_WIDTH < w {
-        return refuse(refusals::LINE_TOO_WIDE, out);
+        return refuse(Reason::LineTooWide, out);
     }
     if out.len() < h * w {
-        return refuse(refusals::AREA_TOO_SMALL, out);
+        return refuse(Reason::AreaTooSmall, out);
     }
     crate::write_rows(out, mode, left, n, right, m, o, h);
     ground::zero_from(out, h * w);
-    JoinAnswer::Joined {
+    Ok(Joined {
         overlap: o,
         width: w,
-    }
+    })
 }
 
 // Joins a FIGcharacter to a line of h rows, on the side that the direction says.
@@ -69,7 +69,7 @@ pub fn join_to_line(
     character: &[u8],
     character_width: usize,
     out: &mut [u8],
-) -> JoinAnswer
+) -> Result<Joined, Refusal>
     ensures { JoinGives mode h line_width line.now character_width character.now (length out.old) result out.new }
 {
     if !shape::good_shape(
@@ -80,10 +80,9 @@ pub fn join_to_line(
         character_width,
         character.len(),
     ) {
-        return refuse(refusals::BAD_SHAPE, out);
+        return refuse(Reason::BadShape, out);
     }
-    let direction = mode.direction;
-    match direction {
+    match mode.direction {
         Direction::LeftToRight => {
             join_blocks(mode, h, line, line_width, character, character_width, out)
         }

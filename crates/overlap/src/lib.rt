@@ -124,7 +124,7 @@ fn smushing_overlap(
 {
     let fit = lanes::fit_of(left, a_starts, a, right, b_starts, b, h);
     let f = fit.overlap;
-    let most = ground::smaller(a.len, b.len);
+    let most = a.len.min(b.len);
     if f < most {
         let t = rest_joins(
             mode,

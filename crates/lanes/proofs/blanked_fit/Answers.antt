@@ -20,7 +20,7 @@ bound q =
 pub loop-r-init : goal.loop-r-init
 loop-r-init c =
     let s = (goal.at.loop-r-init c).Start in
-    (search rules, fitted_none c.args.a.len c.args.b.len (block_of s) (other_of s) _ c.smaller-best.ensures)
+    (search rules, fitted_none c.args.a.len c.args.b.len (block_of s) (other_of s) _ c.min-best.ensures)
 
 pub returns-then-best-eq0 : goal.returns-then-best-eq0
 returns-then-best-eq0 c =
