@@ -10,13 +10,7 @@ pub fn ends_word(text: &[u8], e: usize) -> bool
     requires { (1 ≤ e) × (e ≤ length text.now) }
     ensures { result ≡ ends_word text.now e }
 {
-    if text[e - 1] == b' ' {
-        return false;
-    }
-    if e < text.len() {
-        return text[e] == b' ';
-    }
-    true
+    text[e - 1] != b' ' && (e == text.len() || text[e] == b' ')
 }
 
 // The last end of a word up to place e, where the last one before e is known.

@@ -10,11 +10,7 @@ use subchars::Code;
 fn is_found(seen: LookedUp) -> bool
     ensures { result ≡ is_found seen }
 {
-    match seen {
-        LookedUp::Found(_) => true,
-        LookedUp::StoodIn(_) => false,
-        LookedUp::Nothing => false,
-    }
+    matches!(seen, LookedUp::Found(_))
 }
 
 // What the look-up comes to after one more entry is seen: that one is found, if it has the code; it stands in, if it has code 0 and none before it had
@@ -22,14 +18,13 @@ fn is_found(seen: LookedUp) -> bool
 pub fn better(seen: LookedUp, e: Entry, code: Code) -> LookedUp
     ensures { result ≡ better code seen e }
 {
-    let c = e.code;
-    if chars::same_code(c, code) {
+    if e.code == code {
         return LookedUp::Found(e);
     }
     if is_found(seen) {
         return seen;
     }
-    if chars::same_code(c, Code(0)) {
+    if e.code == Code(0) {
         return LookedUp::StoodIn(e);
     }
     seen
