@@ -25,12 +25,12 @@ fn held_at(start: usize, width: usize) -> Option<Place>
 }
 
 // Notes where a live record of a small code starts, and its width, unless the code was noted before.
-fn note(starts: &mut [usize], widths: &mut [usize], at: usize, record: Record)
+fn note(starts: &mut [usize], widths: &mut [usize], at: usize, found: Record)
     requires { (small_codes ≤ length starts.old) × (small_codes ≤ length widths.old) }
-    ensures { LetterNoted record.live record.code at record.width starts.old widths.old starts.new widths.new }
+    ensures { LetterNoted found.live found.code at found.width starts.old widths.old starts.new widths.new }
 {
-    let code = record.code;
-    if !record.live {
+    let code = found.code;
+    if !found.live {
         return;
     }
     if latest::SMALL_CODES <= code {
@@ -38,7 +38,7 @@ fn note(starts: &mut [usize], widths: &mut [usize], at: usize, record: Record)
     }
     if starts[code] == 0 {
         starts[code] = at;
-        widths[code] = record.width;
+        widths[code] = found.width;
     }
 }
 
@@ -50,9 +50,9 @@ pub fn hold_letters(head: Head, pack: &[u8], starts: &mut [usize], widths: &mut 
 {
     ground::fill_from(starts, 0, 0);
     let mut at = head_length(head.version);
-    while let Some(record) = skim_part(head, &pack[at..]) {
-        note(starts, widths, at, record);
-        at += record.size;
+    while let Some(found) = skim_part(head, &pack[at..]) {
+        note(starts, widths, at, found);
+        at += found.size;
     }
 }
 

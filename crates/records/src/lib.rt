@@ -189,12 +189,12 @@ pub fn skim_part(head: Head, t: &[u8]) -> Option<Record>
 }
 
 // Whether a record is the one that is wanted.
-fn is_wanted(wanted: Wanted, record: Record) -> bool
-    ensures { result ≡ is_wanted wanted record }
+fn is_wanted(wanted: Wanted, found: Record) -> bool
+    ensures { result ≡ is_wanted wanted found }
 {
     match wanted {
-        Wanted::Live(code) => record.live && record.code == code,
-        Wanted::Free(width) => !record.live && record.width == width,
+        Wanted::Live(code) => found.live && found.code == code,
+        Wanted::Free(width) => !found.live && found.width == width,
     }
 }
 
@@ -204,12 +204,12 @@ fn first_from(head: Head, s: &[u8], from: usize, wanted: Wanted) -> Met
     ensures { result ≡ met_in head wanted from (record_list head (drop from s.now)).records }
 {
     let mut at = from;
-    while let Some(record) = skim_part(head, &s[at..]) {
-        if is_wanted(wanted, record) {
-            let width = record.width;
+    while let Some(found) = skim_part(head, &s[at..]) {
+        if is_wanted(wanted, found) {
+            let width = found.width;
             return Met::At(Place { at, width });
         }
-        at += record.size;
+        at += found.size;
     }
     Met::End(at)
 }
@@ -237,11 +237,11 @@ pub fn spot_from(head: Head, s: &[u8], from: usize, width: usize) -> Spot
 }
 
 // Whether a record is live, and its code that of a live record from a place on.
-fn is_repeated(head: Head, s: &[u8], from: usize, record: Record) -> bool
+fn is_repeated(head: Head, s: &[u8], from: usize, found: Record) -> bool
     requires { Walkable head s.now from }
-    ensures { result ≡ (record.live && has_live record.code (record_list head (drop from s.now)).records) }
+    ensures { result ≡ (found.live && has_live found.code (record_list head (drop from s.now)).records) }
 {
-    record.live && find_from(head, s, from, record.code).is_some()
+    found.live && find_from(head, s, from, found.code).is_some()
 }
 
 // Whether no two live records from a place on have one code. It looks at records' heads only; quadratic in the number of live records.
@@ -250,9 +250,9 @@ fn none_twice(head: Head, s: &[u8], from: usize) -> bool
     ensures { result ≡ none_twice (record_list head (drop from s.now)).records }
 {
     let mut at = from;
-    while let Some(record) = skim_part(head, &s[at..]) {
-        at += record.size;
-        if is_repeated(head, s, at, record) {
+    while let Some(found) = skim_part(head, &s[at..]) {
+        at += found.size;
+        if is_repeated(head, s, at, found) {
             return false;
         }
     }
@@ -268,9 +268,9 @@ fn count_records(head: Head, s: &[u8], from: usize) -> Option<usize>
     let mut n: usize = 0;
     loop {
         match scan_part(head, &s[at..]) {
-            Scan::Record(record) => {
-                at += record.size;
-                n += usize::from(record.live);
+            Scan::Record(found) => {
+                at += found.size;
+                n += usize::from(found.live);
             }
             Scan::End => {
                 return Some(n);
