@@ -37,7 +37,7 @@ const OTHER: usize = 14;
 fn kind_of(hardblank: SubCharacter, x: SubCharacter) -> usize
     ensures { result ≡ kind_of hardblank.0 x.0 }
 {
-    if x.0 == hardblank.0 {
+    if x == hardblank {
         return 1;
     }
     let b = x.0;
@@ -90,7 +90,7 @@ fn entry_of(hardblank: SubCharacter, left: SubCharacter, kind: usize) -> u8
     ensures { result ≡ rule_entry (kind_of hardblank.0 left.0) kind }
 {
     let table = PAIR_RULES;
-    if left.0 == hardblank.0 {
+    if left == hardblank {
         return entry_in(table[1], kind);
     }
     let b = left.0;
@@ -118,7 +118,7 @@ pub fn pair_rules(hardblank: SubCharacter, left: SubCharacter, right: SubCharact
     ensures { result ≡ rules_joining hardblank.0 left.0 right.0 }
 {
     let kind = kind_of(hardblank, right);
-    if ground::both(kind == OTHER, left.0 != right.0) {
+    if kind == OTHER && left != right {
         return 0;
     }
     entry_of(hardblank, left, kind)

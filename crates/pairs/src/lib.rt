@@ -10,7 +10,7 @@ use subchars::{Direction, Layout, Mode, Smushing, SubCharacter};
 
 // What a pair becomes, and by what: a blank that yields, universal smushing, or a rule. (Document 01 calls the byte of the last two the
 // pair's joint.)
-#[derive(Clone, Copy)]
+#[derive(Clone, Copy, PartialEq, Eq)]
 pub enum Joint {
     ByBlank(SubCharacter),
     ByUniversal(SubCharacter),
@@ -54,10 +54,10 @@ fn universal_joint(
 ) -> Joint
     ensures { result ≡ universal direction hardblank.0 left.0 right.0 }
 {
-    if left.0 == hardblank.0 {
+    if left == hardblank {
         return Joint::ByUniversal(right);
     }
-    if right.0 == hardblank.0 {
+    if right == hardblank {
         return Joint::ByUniversal(left);
     }
     Joint::ByUniversal(later_of(direction, left, right))

@@ -3,7 +3,7 @@
 -- Assumes nothing.
 use mathlib.Core.Path.{◌≡◌, refl, sym, ◌∙◌, ap, ap₂}
 use mathlib.Core.Bool.{Bool, true, false, cond, ◌&&◌, false≢true}
-use mathlib.Core.Option.{Option, none, some, get_or}
+use Rattle.std.specs.Prelude.{Option, Some, None, unwrap_or}
 use Prim.Native.Nat.{ℕ, ◌/◌, ◌%◌}
 use native.Mathlib.Omega.{arith}
 use lib.Dec.{eqb}
@@ -34,10 +34,10 @@ use Rattle.vertical.proofs.VerticalRules.{first-append}
 
 -- what a joint makes of its pair
 abbrev pub made_of : Joint → Option ℕ
-made_of (ByBlank x) = some x.0
-made_of (ByUniversal x) = some x.0
-made_of (ByRule rule x) = some x.0
-made_of Unjoinable = none
+made_of (ByBlank x) = Some x.0
+made_of (ByUniversal x) = Some x.0
+made_of (ByRule rule x) = Some x.0
+made_of Unjoinable = None
 
 -- what the code tells of a pair
 abbrev pub byte_in : Merge → ℕ
@@ -50,8 +50,8 @@ is_into Apart = false
 
 step : (rule : Rule) (o : Option ℕ) (next : Joint) → made_of (joined_by rule o next) ≡ or_else o (made_of next)
 unfolding or_else
-step rule (some x) next = refl
-step rule none next = refl
+step rule (Some x) next = refl
+step rule None next = refl
 
 module _ (u l : ℕ) (first : u ≡ blank → ⊥) (second : l ≡ blank → ⊥) where
   module _ (set : ℕ) where
@@ -61,14 +61,14 @@ module _ (u l : ℕ) (first : u ≡ blank → ⊥) (second : l ≡ blank → ⊥
     seen : (o : Option ℕ) → unless_hardblank blank u l o ≡ o
     seen o = rw (ne_eqb u blank first, ne_eqb l blank second)
 
-    wanted : (m n : ℕ) (o : Option ℕ) → m ≡ n → cond (eqb m 1) (unless_hardblank blank u l o) none ≡ cond (eqb n 1) o none
-    wanted m n o e = ap₂ (λ (x : ℕ) (y : Option ℕ). cond (eqb x 1) y none) e (seen o)
+    wanted : (m n : ℕ) (o : Option ℕ) → m ≡ n → cond (eqb m 1) (unless_hardblank blank u l o) None ≡ cond (eqb n 1) o None
+    wanted m n o e = ap₂ (λ (x : ℕ) (y : Option ℕ). cond (eqb x 1) y None) e (seen o)
 
     out : (n : ℕ) → n ≡ 0 → eqb (n % 2) 1 ≡ false
     out n e = rw e
 
     -- the set has no rule but the first three
-    rest : made_of (joined_by horizontal.OppositePair (cond (has low 8) (unless_hardblank blank u l (opposite_pair u l)) none) (joined_by horizontal.BigX (cond (has low 16) (unless_hardblank blank u l (big_x u l)) none) (joined_by horizontal.Hardblank (cond (has low 32) (joined_if (eqb u blank && eqb l blank) blank) none) Unjoinable))) ≡ none
+    rest : made_of (joined_by horizontal.OppositePair (cond (has low 8) (unless_hardblank blank u l (opposite_pair u l)) None) (joined_by horizontal.BigX (cond (has low 16) (unless_hardblank blank u l (big_x u l)) None) (joined_by horizontal.Hardblank (cond (has low 32) (joined_if (eqb u blank && eqb l blank) blank) None) Unjoinable))) ≡ None
     rest = rw (out (low / 8) (omega arith), out (low / 16) (omega arith), out (low / 32) (omega arith))
 
     -- "Same as horizontal smushing rule 1", "2", "3"
@@ -107,7 +107,7 @@ module _ (layout : VerticalLayout) (u l : ℕ) where
   unfolding joint merge or_else
   by-sideways = go (eqb u blank) refl (eqb l blank) refl
     where
-      go : (s : Bool) → eqb u blank ≡ s → (t : Bool) → eqb l blank ≡ t → or_else (made_of (cond s (ByBlank (record { 0 = l })) (cond t (ByBlank (record { 0 = u })) (horizontal-pair.without_blank (sideways_layout layout) LeftToRight blank u l)))) behind ≡ cond s (some l) (cond t (some u) (without_blank layout u l))
+      go : (s : Bool) → eqb u blank ≡ s → (t : Bool) → eqb l blank ≡ t → or_else (made_of (cond s (ByBlank (record { 0 = l })) (cond t (ByBlank (record { 0 = u })) (horizontal-pair.without_blank (sideways_layout layout) LeftToRight blank u l)))) behind ≡ cond s (Some l) (cond t (Some u) (without_blank layout u l))
       go true e t f = refl
       go false e true f = refl
       go false e false f = by_layout u l (eqb-false u blank e) (eqb-false l blank f) layout
@@ -117,7 +117,7 @@ module _ (layout : VerticalLayout) (u l : ℕ) where
     found : (j : Joint) → j ≡ joint (sideways y) u l → or_else (made_of j) behind ≡ merge layout u l
     found j e = ap (λ (i : Joint). or_else (made_of i) behind) e ∙ (ap (λ (z : Layout). or_else (made_of (joint (sideways z) u l)) behind) q ∙ by-sideways)
 
-    pub by-joint : (j : Joint) (x : ℕ) → made_of j ≡ some x → j ≡ joint (sideways y) u l → told (some x) ≡ told (merge layout u l)
+    pub by-joint : (j : Joint) (x : ℕ) → made_of j ≡ Some x → j ≡ joint (sideways y) u l → told (Some x) ≡ told (merge layout u l)
     unfolding or_else
     by-joint j x f e = ap told (ap (λ (o : Option ℕ). or_else o behind) (sym f) ∙ found j e)
 
@@ -131,26 +131,26 @@ module _ (layout : VerticalLayout) (u l : ℕ) where
   byte-told m e = ap byte_in e ∙ go (merge layout u l)
     where
       go : (o : Option ℕ) → byte_in (told o) ≡ get_or o 0
-      go (some x) = refl
-      go none = refl
+      go (Some x) = refl
+      go None = refl
 
   pub merges-told : (m : Merge) → m ≡ told (merge layout u l) → is_into m ≡ merges layout u l
   unfolding merges is_some
   merges-told m e = ap is_into e ∙ go (merge layout u l)
     where
       go : (o : Option ℕ) → is_into (told o) ≡ is_some o
-      go (some x) = refl
-      go none = refl
+      go (Some x) = refl
+      go None = refl
 
 -- ------------------------------------------------------------------ the rules for lines
 
 -- a rule of the set whose test holds, and one that is not in the set or whose test does not hold
-kept : (a b : Bool) (x : ℕ) → (a && b) ≡ true → cond a (joined_if b x) none ≡ some x
+kept : (a b : Bool) (x : ℕ) → (a && b) ≡ true → cond a (joined_if b x) None ≡ Some x
 unfolding joined_if
 kept true b x e = rw e
 kept false b x e = absurd (false≢true e)
 
-passed : (a b : Bool) (x : ℕ) → (a && b) ≡ false → cond a (joined_if b x) none ≡ none
+passed : (a b : Bool) (x : ℕ) → (a && b) ≡ false → cond a (joined_if b x) None ≡ None
 unfolding joined_if
 passed true b x e = rw e
 passed false b x e = refl
@@ -162,11 +162,11 @@ module _ (set u l : ℕ) where
   abbrev pub bars : Bool
   bars = set_has set VerticalLine && two_bars u l
 
-  pub by-line : line ≡ true → told (some (byte "=")) ≡ told (first_merging (set_has set) line_rules u l)
+  pub by-line : line ≡ true → told (Some (byte "=")) ≡ told (first_merging (set_has set) line_rules u l)
   unfolding horizontal_line or_else
   by-line e = rw (kept (set_has set HorizontalLine) (either_order "-_" u l) (byte "=") e)
 
-  pub by_bars : line ≡ false → bars ≡ true → told (some (byte "|")) ≡ told (first_merging (set_has set) line_rules u l)
+  pub by_bars : line ≡ false → bars ≡ true → told (Some (byte "|")) ≡ told (first_merging (set_has set) line_rules u l)
   unfolding horizontal_line or_else
   by_bars e f =
       rw (passed (set_has set HorizontalLine) (either_order "-_" u l) (byte "=") e, kept (set_has set VerticalLine) (two_bars u l) (byte "|") f)

@@ -1,6 +1,6 @@
 -- `pairs::controlled_joint` meets its contract: the pair's rule is what the set has in common with the sum of its rules.
 use mathlib.Core.Path.{◌≡◌, sym, ◌∙◌, ap, ap₂}
-use mathlib.Core.Option.{some}
+use Rattle.std.specs.Prelude.{Some}
 use Prim.Native.Nat.{ℕ}
 use lib.Bits.{bit_and}
 use Rattle.subchars.specs.declared.SubCharacter.{SubCharacter}
@@ -27,7 +27,7 @@ module _ (set h l r : ℕ) where
       go (ruled p x m e j) = absurd (positive_not p (sym m ∙ z))
       go (unruled m j) = j
 
-  joined : (rule : Rule) (s : SubCharacter) → (common ≡ 0 → ⊥) → ((p : Rule) → common ≡ rule_number p → rule ≡ p) → ((x : ℕ) (p : Rule) → by_rule p h l r ≡ some x → s.0 ≡ x) → ByRule rule s ≡ controlled set h l r
+  joined : (rule : Rule) (s : SubCharacter) → (common ≡ 0 → ⊥) → ((p : Rule) → common ≡ rule_number p → rule ≡ p) → ((x : ℕ) (p : Rule) → by_rule p h l r ≡ Some x → s.0 ≡ x) → ByRule rule s ≡ controlled set h l r
   joined rule s n f g = go (masked h l r set)
     where
       go : Masked h l r set common → ByRule rule s ≡ controlled set h l r
