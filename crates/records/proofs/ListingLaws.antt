@@ -14,9 +14,8 @@ use Rattle.ground.proofs.Tests.{and_left, and_right, and_both, clash}
 use Rattle.areas.specs.Numbers.{number_of}
 use Rattle.records.specs.declared.Head.{Head}
 use Rattle.records.specs.declared.Record.{Record}
-use Rattle.records.specs.declared.Scan.{Scan}
 use Rattle.records.specs.declared.Scan.TheVariants as scanned
-use Rattle.std.specs.Prelude.{Option, Some, None}
+use Rattle.std.specs.Prelude.{Some, None}
 use Rattle.records.specs.Versions.{width_length, record_head_length}
 use Rattle.rows.specs.Rows.{legal_byte}
 use Rattle.records.specs.Records.{is_zero, is_live, code_in, width_in, rows_in, size_in, good_fields, good_record, RecordList, list_ends, with_record, records_from, record_list}

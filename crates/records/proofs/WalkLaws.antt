@@ -17,7 +17,8 @@ use Rattle.records.specs.declared.Record.{Record}
 use Rattle.records.specs.declared.Place.{Place}
 use Rattle.records.specs.declared.Spot.{Spot}
 use Rattle.records.specs.declared.Spot.TheVariants as spot
-use Rattle.std.specs.Prelude.{Option, Some, None, is_some, Result, Ok, Err}
+use Rattle.core.specs.Result.{result_ok}
+use Rattle.std.specs.Prelude.{Some, None, is_some, Result, Ok, Err}
 use Rattle.records.specs.Versions.{record_head_length}
 use Rattle.records.specs.Records.{is_live, code_in, width_in, RecordList, list_ends, with_record, record_list, is_live_of, has_live, none_twice, live_count, is_free_of}
 use Rattle.records.specs.Places.{place_in, spot_in}
@@ -44,16 +45,12 @@ has_code code r = r.live && eqb r.code code
 abbrev pub has_width : ℕ → Record → Bool
 has_width width r = not r.live && eqb r.width width
 
-abbrev pub place_of : Result Place ℕ → Option Place
-place_of (Ok p) = Some p
-place_of (Err at) = None
-
-pub first_place : (f : Head) (code at : ℕ) (rs : List (List ℕ)) → place_of (first_in f (has_code code) at rs) ≡ place_in f code at rs
+pub first_place : (f : Head) (code at : ℕ) (rs : List (List ℕ)) → result_ok (first_in f (has_code code) at rs) ≡ place_in f code at rs
 unfolding first_in place_in is_live_of
 first_place f code at [] = refl
 first_place f code at (r ∷ rs) = go (is_live r && eqb (code_in r) code) (first_place f code (at + length r) rs)
   where
-    go : (b : Bool) → place_of (first_in f (has_code code) (at + length r) rs) ≡ place_in f code (at + length r) rs → place_of (cond b (Ok (record { at = at; width = width_in f r })) (first_in f (has_code code) (at + length r) rs)) ≡ cond b (Some (record { at = at; width = width_in f r })) (place_in f code (at + length r) rs)
+    go : (b : Bool) → result_ok (first_in f (has_code code) (at + length r) rs) ≡ place_in f code (at + length r) rs → result_ok (cond b (Ok (record { at = at; width = width_in f r })) (first_in f (has_code code) (at + length r) rs)) ≡ cond b (Some (record { at = at; width = width_in f r })) (place_in f code (at + length r) rs)
     go true e = refl
     go false e = e
 
@@ -130,10 +127,10 @@ module _ (f : Head) (s : List ℕ) (at : ℕ) where
 
     -- so the search for the live record of a code
     pub place_here : (code : ℕ) → has_code code r ≡ true → place_in f code at (records_at f s at) ≡ Some (record { at = at; width = r.width })
-    place_here code e = sym (first_place f code at (records_at f s at)) ∙ ap place_of (first_here (has_code code) e)
+    place_here code e = sym (first_place f code at (records_at f s at)) ∙ ap result_ok (first_here (has_code code) e)
 
     pub place_next : (code : ℕ) → has_code code r ≡ false → place_in f code at (records_at f s at) ≡ place_in f code (at + r.size) (records_at f s (at + r.size))
-    place_next code e = sym (first_place f code at (records_at f s at)) ∙ ap place_of (first_next (has_code code) e) ∙ first_place f code (at + r.size) (records_at f s (at + r.size))
+    place_next code e = sym (first_place f code at (records_at f s at)) ∙ ap result_ok (first_next (has_code code) e) ∙ first_place f code (at + r.size) (records_at f s (at + r.size))
 
     -- The count of the live records, if all are good.
     pub counted_next : (n : ℕ) → counted_from n (record_list f (drop at s)) ≡ counted_from (n + cond r.live 1 0) (record_list f (drop (at + r.size) s))
@@ -164,7 +161,7 @@ module _ (f : Head) (s : List ℕ) (at : ℕ) where
   first_none p b e = ap (λ (x : RecordList). first_in f p at x.records) e
 
   pub place_none : (code : ℕ) (b : Bool) → record_list f (drop at s) ≡ list_ends b → place_in f code at (records_at f s at) ≡ None
-  place_none code b e = sym (first_place f code at (records_at f s at)) ∙ ap place_of (first_none (has_code code) b e)
+  place_none code b e = sym (first_place f code at (records_at f s at)) ∙ ap result_ok (first_none (has_code code) b e)
 
   pub twice_none : (b : Bool) → record_list f (drop at s) ≡ list_ends b → none_twice (records_at f s at) ≡ true
   unfolding none_twice

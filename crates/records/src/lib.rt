@@ -110,6 +110,7 @@ fn is_zeros(t: &[u8]) -> bool
 }
 
 // Whether status, code and width may stand in a record.
+#[tactic(auto, unfolding(crate::specs::Records::good_fields))]
 fn are_good_fields(version: usize, status: u8, code: usize, width: usize) -> bool
     ensures { result ≡ good_fields version status code width }
 {
