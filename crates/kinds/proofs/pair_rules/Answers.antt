@@ -24,6 +24,6 @@ returns c =
     ∙ (ap (rule_entry (kind_of a.hardblank.0 a.left.0)) kind
     ∙ pair_entry a.hardblank.0 a.left.0 a.right.0 c.requires.0 c.requires.1 λ o.
     elim c.else-kind-eq-OTHER.branch [
-      else-kind-eq-OTHER-via-then-kind-eq-OTHER+else-ne w ↦ eqb-true _ _ (not-false _ (sym w.if-ne.ensures))
-    | else-kind-eq-OTHER-via-else-kind-eq-OTHER w ↦ absurd (w.if-kind-eq-OTHER.false (kind ∙ o))
+      | else-kind-eq-OTHER-via-then-kind-eq-OTHER+else-ne w ↦ eqb-true _ _ (not-false _ (sym w.if-ne.ensures))
+      | else-kind-eq-OTHER-via-else-kind-eq-OTHER w ↦ absurd (w.if-kind-eq-OTHER.false (kind ∙ o))
     ])
