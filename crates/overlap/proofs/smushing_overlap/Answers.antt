@@ -20,7 +20,7 @@ pub rest_joins-t-requires : goal.rest_joins-t-requires
 rest_joins-t-requires c =
     let f = c.fit_of-fit in
     let n = c.args.a.len in
-    let less : f.result.overlap < min n c.args.b.len = omega (arith, c.smaller-most.ensures, c.if-f-most.true) in
+    let less : f.result.overlap < min n c.args.b.len = omega (arith, c.min-most.ensures, c.if-f-most.true) in
     record { o_le_len = (omega arith, omega arith, f.ensures.within); inside = c.requires.inside; inside_2 = c.requires.inside_2; o_value = facing_mono has_blank (joins c.args.mode) (has-joins c.args.mode) f.result.lane n (left-of (goal.at.rest_joins-t-requires c).Start) (right_of (goal.at.rest_joins-t-requires c).Start) (f.result.overlap + 1) (f.ensures.before less) }
 
 pub returns-then-t : goal.returns-then-t
