@@ -24,14 +24,9 @@ pub enum Step {
 fn line_end(part: &[u8]) -> usize
     ensures { result ≡ run not_lf part.now }
 {
-    let mut i: usize = 0;
-    while i < part.len() {
-        if part[i] == b'\n' {
-            return i;
-        }
-        i += 1;
-    }
-    i
+    part.iter()
+        .position(|b| *b == b'\n')
+        .unwrap_or(part.len())
 }
 
 // Adds the part's bytes before `end` to a line of which `held` are kept; those past the most are dropped. Answers how many are kept.
