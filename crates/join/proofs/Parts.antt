@@ -28,8 +28,8 @@ part_at s a at n e k l =
 pub pairs_part : (y : Mode) (left right : List ℕ) (cut n o : ℕ) → o ≤ n → values (pair_bytes y (take n (drop cut left)) 0 (take o right) 0) o ≡ values (pair_bytes y left (0 + cut) right 0) o
 pairs_part y left right cut n o h =
     values_cong (pair_bytes y (take n (drop cut left)) 0 (take o right) 0) (pair_bytes y left (0 + cut) right 0) o λ k l.
-        let w : cut + k ≡ 0 + cut + k = omega arith in
-        ap₂ (pair_byte y) (part_at left (take n (drop cut left)) cut n refl k (omega arith) ∙ ap (λ (t : ℕ). get_or left t 0) w) (get_or-take o right (0 + k) 0 (omega arith))
+    let w : cut + k ≡ 0 + cut + k = omega arith in
+    ap₂ (pair_byte y) (part_at left (take n (drop cut left)) cut n refl k (omega arith) ∙ ap (λ (t : ℕ). get_or left t 0) w) (get_or-take o right (0 + k) 0 (omega arith))
 
 -- of a row of each block
 pub row_parts : (y : Mode) (o : ℕ) (left right : List ℕ) (n m r : ℕ) → o ≤ n → o ≤ m → (a b : List ℕ) → ((k : ℕ) → k < n → from_on a 0 k ≡ from_on left (r * n) k) → ((k : ℕ) → k < m → from_on b 0 k ≡ from_on right (r * m) k)

@@ -1,5 +1,5 @@
 -- `join::write_rows` meets its contract.
-use mathlib.Core.Path.{◌≡◌, ◌∙◌, refl, sym, ap, ap₂}
+use mathlib.Core.Path.{◌≡◌, ◌∙◌, refl, ap, ap₂}
 use mathlib.Core.List.{List, ◌++◌}
 use Prim.Native.Nat.{ℕ, ◌+◌, ◌-◌, ◌*◌}
 use native.Mathlib.Nat.{zero-mul}
@@ -40,8 +40,8 @@ loop-r-preserved c =
     let u_long : length u ≡ n = ap length c.row.ensures ∙ length-take-le n _ (omega (arith, length-drop (r * n) left, row_room r a.h n c.loop-r-test.true, c.requires.sides.0)) in
     let v_long : length v ≡ m = ap length c.row-in-loop-r.ensures ∙ length-take-le m _ (omega (arith, length-drop (r * m) right, row_room r a.h m c.loop-r-test.true, c.requires.sides.1)) in
     let is : row ≡ values (rows r) w =
-        c.write_row.ensures ∙ ap₂ (λ (i j : ℕ). joined_row a.mode a.o u 0 i v 0 j) u_long v_long ∙
-        row_parts a.mode a.o left right n m r c.requires.sides.2 c.requires.sides.3 u v (part_at left u (r * n) n c.row.ensures) (part_at right v (r * m) m c.row-in-loop-r.ensures) in
+    c.write_row.ensures ∙ ap₂ (λ (i j : ℕ). joined_row a.mode a.o u 0 i v 0 j) u_long v_long ∙
+    row_parts a.mode a.o left right n m r c.requires.sides.2 c.requires.sides.3 u v (part_at left u (r * n) n c.row.ensures) (part_at right v (r * m) m c.row-in-loop-r.ensures) in
     let row_long : length row ≡ w = ap length is ∙ length-values (rows r) w in
     let written : take (r * w + w) l ≡ take (r * w) out ++ row = take-put_mid (r * w) _ out row (r * w + w) (omega (arith, row_long)) (omega (arith, row_room r a.h w c.loop-r-test.true, c.requires.room, c.loop-r.invariant.0)) in (
       same_len_mid (r * w) _ out row c.write_row.auto.out ∙ c.loop-r.invariant.0,
