@@ -17,7 +17,8 @@ ghost use Rattle.wrapping.specs.Wrapping.{draw_wrapped, wrap_in, wrap_answer, wr
 ghost use Rattle.answers.specs.Numbers.{font_number, control_number, draw_number, wrap_number, join_number, stack_number};
 ghost use Rattle.capi.specs.Numbers.{join_taken, join_left, stack_taken, stack_left};
 
-use ground::{limits, refusals};
+use ground::limits;
+use ground::refusals::{Reason, Refusal};
 use subchars::{Direction, Layout, SubCharacter, VerticalLayout};
 
 // Reads a font, and answers its height and how many characters it has. Refusals 1 to 8.
@@ -78,12 +79,9 @@ pub extern "C" fn wattleslate_join(
     ensures answer { result ≡ join_number (join_taken layout direction hardblank height line_width line.now character_width character.now (length out.old)) }
     ensures area { out.new ≡ join_left layout direction hardblank height line_width line.now character_width character.now (length out.old) }
 {
-    if !ground::both(
-        layout <= limits::MAX_FULL_LAYOUT,
-        direction <= limits::MAX_DIRECTION,
-    ) {
+    if layout > limits::MAX_FULL_LAYOUT || direction > limits::MAX_DIRECTION {
         ground::zero_from(out, 0);
-        return answers::refused_at(refusals::BAD_SHAPE, 0);
+        return answers::refused_at(Refusal::of(Reason::BadShape));
     }
     answers::join_number(wattleslate::join(
         line,
@@ -117,7 +115,7 @@ pub extern "C" fn wattleslate_stack(
 {
     if limits::MAX_FULL_LAYOUT < layout {
         ground::zero_from(out, 0);
-        return answers::refused_at(refusals::BAD_SHAPE, 0);
+        return answers::refused_at(Refusal::of(Reason::BadShape));
     }
     answers::stack_number(wattleslate::stack(
         upper,

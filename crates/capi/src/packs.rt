@@ -61,10 +61,7 @@ pub extern "C" fn wattleslate_pack_compact(pack: &mut [u8]) -> u64
 fn layout_by(layout: usize, direction: usize) -> Layout
     ensures { result ≡ layout_by layout direction }
 {
-    if ground::both(
-        layout <= limits::MAX_FULL_LAYOUT,
-        direction <= limits::MAX_DIRECTION,
-    ) {
+    if layout <= limits::MAX_FULL_LAYOUT && direction <= limits::MAX_DIRECTION {
         return Layout::from_full(layout);
     }
     Layout::Smushing(Smushing::Controlled(0))
