@@ -47,7 +47,6 @@ fn later_of(direction: Direction, left: SubCharacter, right: SubCharacter) -> Su
 }
 
 #[tactic(auto, unfolding(crate::specs::Pair::universal))]
-
 fn universal_joint(
     direction: Direction,
     hardblank: SubCharacter,
@@ -114,7 +113,7 @@ fn byte_of(j: Joint) -> SubCharacter
 }
 
 // Whether a kind of smushing joins a pair without a blank, in either direction.
-#[tactic(auto, unfolding(crate::specs::Pair::universal))]
+#[tactic(auto, using(crate::proofs::Masking::mask_joins), unfolding(crate::specs::Pair::universal))]
 fn smushes(kind: Smushing, hardblank: SubCharacter, left: SubCharacter, right: SubCharacter) -> bool
     requires { (left.0 ≡ blank → ⊥) × (right.0 ≡ blank → ⊥) }
     ensures { (d : Direction) → result ≡ is_joined (smushed kind d hardblank.0 left.0 right.0) }
