@@ -20,6 +20,7 @@ pub enum Joint {
 
 const NONE: SubCharacter = SubCharacter(0);
 
+#[tactic(auto, using(crate::proofs::Masking::masked, crate::proofs::Masking::positive_not))]
 fn controlled_joint(
     set: u8,
     hardblank: SubCharacter,
