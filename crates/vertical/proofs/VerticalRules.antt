@@ -347,8 +347,8 @@ module _ (set u l : ℕ) where
       go : (t : Bool) → two_bars u l ≡ t → unwrap_or (merge (controlled_by set) u l) 0 ≡ unwrap_or (merge (controlled_by (other_rules set)) u l) 0
       go true e =
           let i = sym (bars_need_256 e) ∙ m in
-          ap (λ (o : Option ℕ). get_or o 0) (by_256 set i e ∙ sym (by_256 (other_rules set) (others_equal set EqualCharacter (λ z. clash cc) ∙ i) e))
-      go false e = ap (λ (o : Option ℕ). get_or o 0) (other_pairs e)
+          ap (λ (o : Option ℕ). unwrap_or o 0) (by_256 set i e ∙ sym (by_256 (other_rules set) (others_equal set EqualCharacter (λ z. clash cc) ∙ i) e))
+      go false e = ap (λ (o : Option ℕ). unwrap_or o 0) (other_pairs e)
 
 -- ------------------------------------------------------------------ a hyphen and an underscore
 

@@ -23,6 +23,7 @@ fn is_line(u: SubCharacter, l: SubCharacter) -> bool
     u.0 == b'-' && l.0 == b'_' || l.0 == b'-' && u.0 == b'_'
 }
 
+#[tactic(auto, unfolding(crate::specs::VerticalPair::two_bars))]
 fn is_bars(u: SubCharacter, l: SubCharacter) -> bool
     ensures { result ≡ two_bars u.0 l.0 }
 {
@@ -30,6 +31,7 @@ fn is_bars(u: SubCharacter, l: SubCharacter) -> bool
 }
 
 // What rules 2048 and 4096 of a set make of a pair.
+#[tactic(auto, unfolding(crate::specs::VerticalPair::horizontal_line, rules::specs::Rules::joined_if, rules::specs::Rules::or_else))]
 fn line_merge(set: u16, u: SubCharacter, l: SubCharacter) -> Option<SubCharacter>
     ensures { option_map (λ (x : SubCharacter). x.0) result ≡ first_merging (set_has set) line_rules u.0 l.0 }
 {
@@ -83,12 +85,14 @@ fn merge_of(layout: VerticalLayout, u: SubCharacter, l: SubCharacter) -> Option<
 }
 
 // What a pair that the layout joins becomes, u above l; NUL of one that it does not join.
+#[tactic(auto, unfolding(crate::specs::VerticalPair::merged_byte))]
 pub fn merged_byte(layout: VerticalLayout, u: SubCharacter, l: SubCharacter) -> SubCharacter
     ensures { result.0 ≡ merged_byte layout u.0 l.0 }
 {
     merge_of(layout, u, l).unwrap_or(SubCharacter(b'\0'))
 }
 
+#[tactic(auto, unfolding(crate::specs::VerticalPair::merges, rules::specs::Rules::is_some))]
 fn can_merge(layout: VerticalLayout, u: SubCharacter, l: SubCharacter) -> bool
     ensures { result ≡ merges layout u.0 l.0 }
 {
@@ -96,6 +100,7 @@ fn can_merge(layout: VerticalLayout, u: SubCharacter, l: SubCharacter) -> bool
 }
 
 // Whether a pair has a blank or is of two bars.
+#[tactic(auto, unfolding(crate::specs::VerticalPair::barred))]
 fn is_barred(u: SubCharacter, l: SubCharacter) -> bool
     ensures { result ≡ barred u.0 l.0 }
 {

@@ -26,15 +26,15 @@ size : (l : At-loop-i) → length (rows l) ≡ l.args.h * (l.args.w + 1)
 size l = length-rows (cells l) l.args.h (l.args.w + 1)
 
 -- a byte that is compared is within both
-module _ (l : At-loop-i) (t : l.loop-i.i < l.smaller-shorter.result) where
+module _ (l : At-loop-i) (t : l.loop-i.i < l.min-shorter.result) where
   in_rows : l.loop-i.i < length (rows l)
-  in_rows = omega (arith, size l, l.smaller-shorter.ensures)
+  in_rows = omega (arith, size l, l.min-shorter.ensures)
 
   in_figure : l.loop-i.i < length (figure l)
-  in_figure = omega (arith, l.smaller-shorter.ensures)
+  in_figure = omega (arith, l.min-shorter.ensures)
 
   in_row : l.loop-i.r < l.args.h
-  in_row = row_below l.loop-i.r (l.args.w + 1) l.loop-i.k l.args.h (omega (arith, l.smaller-shorter.ensures, l.loop-i.invariant.1))
+  in_row = row_below l.loop-i.r (l.args.w + 1) l.loop-i.k l.args.h (omega (arith, l.min-shorter.ensures, l.loop-i.invariant.1))
 
   -- byte i of the rows
   here : get_or (rows l) l.loop-i.i 0 ≡ cells l l.loop-i.r l.loop-i.k
@@ -61,8 +61,8 @@ loop-i-preserved c =
 
 pub returns-then-need-figure : goal.returns-then-need-figure
 returns-then-need-figure c =
-    all_same (rows (goal.at.returns-then-need-figure c).At-loop-i) (figure (goal.at.returns-then-need-figure c).At-loop-i) c.loop-i.i c.loop-i.invariant.3 (omega (arith, size (goal.at.returns-then-need-figure c).At-loop-i, c.smaller-shorter.ensures)) (size (goal.at.returns-then-need-figure c).At-loop-i ∙ c.if-need-figure.true)
+    all_same (rows (goal.at.returns-then-need-figure c).At-loop-i) (figure (goal.at.returns-then-need-figure c).At-loop-i) c.loop-i.i c.loop-i.invariant.3 (omega (arith, size (goal.at.returns-then-need-figure c).At-loop-i, c.min-shorter.ensures)) (size (goal.at.returns-then-need-figure c).At-loop-i ∙ c.if-need-figure.true)
 
 pub returns : goal.returns
 returns c =
-    shorter_ends (rows (goal.at.returns c).At-loop-i) (figure (goal.at.returns c).At-loop-i) c.smaller-shorter.result (λ j u. c.loop-i.invariant.3 j (omega (arith, c.loop-i-test.false))) (omega (arith, size (goal.at.returns c).At-loop-i, c.smaller-shorter.ensures)) (λ q. c.if-need-figure.false (sym (size (goal.at.returns c).At-loop-i) ∙ q))
+    shorter_ends (rows (goal.at.returns c).At-loop-i) (figure (goal.at.returns c).At-loop-i) c.min-shorter.result (λ j u. c.loop-i.invariant.3 j (omega (arith, c.loop-i-test.false))) (omega (arith, size (goal.at.returns c).At-loop-i, c.min-shorter.ensures)) (λ q. c.if-need-figure.false (sym (size (goal.at.returns c).At-loop-i) ∙ q))

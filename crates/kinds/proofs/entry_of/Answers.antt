@@ -1,6 +1,7 @@
 -- `kinds::entry_of` meets its contract: each arm has the row of its kind.
-use mathlib.Core.Path.{◌≡◌, refl, ◌∙◌, ap}
+use mathlib.Core.Path.{◌≡◌, refl, sym, ◌∙◌, ap}
 use Prim.Native.Nat.{ℕ}
+use borrow.Author.Tests.{eqb-true, eqb-false}
 use Rattle.kinds.specs.Kinds.{kind_of, rule_entry}
 use Rattle.kinds.proofs.PairRules.{visible_kind, kind_hardblank, kind_of_byte, kind_other}
 use Rattle.kinds.proofs.entry_of.Goals as goal
@@ -10,78 +11,78 @@ module _ (h l kind : ℕ) (seen : l ≡ h → ⊥) where
   arm : (y k : ℕ) {n : ℕ} → l ≡ y → visible_kind y ≡ k → n ≡ rule_entry k kind → n ≡ rule_entry (kind_of h l) kind
   arm y k e v q = q ∙ ap (λ (i : ℕ). rule_entry i kind) (kind_of_byte h l seen y k e v)
 
-pub returns-then-left-hardblank : goal.returns-then-left-hardblank
-returns-then-left-hardblank c =
+pub returns-then-eq : goal.returns-then-eq
+returns-then-eq c =
     let a = c.args in
-    c.entry_in.ensures ∙ ap (λ (i : ℕ). rule_entry i a.kind) (kind_hardblank a.hardblank.0 a.left.0 c.if-left-hardblank.true)
+    c.entry_in.ensures ∙ ap (λ (i : ℕ). rule_entry i a.kind) (kind_hardblank a.hardblank.0 a.left.0 (eqb-true _ _ (sym c.if-eq.ensures)))
 
 pub returns-in-32 : goal.returns-in-32
 returns-in-32 c =
     let a = c.args in
-    arm a.hardblank.0 a.left.0 a.kind c.if-left-hardblank.false 32 0 c.in-32.is refl c.entry_in-in-32.ensures
+    arm a.hardblank.0 a.left.0 a.kind (eqb-false _ _ (sym c.if-eq.ensures)) 32 0 c.in-32.is refl c.entry_in-in-32.ensures
 
 pub returns-in-95 : goal.returns-in-95
 returns-in-95 c =
     let a = c.args in
-    arm a.hardblank.0 a.left.0 a.kind c.if-left-hardblank.false 95 2 c.in-95.is refl c.entry_in-in-95.ensures
+    arm a.hardblank.0 a.left.0 a.kind (eqb-false _ _ (sym c.if-eq.ensures)) 95 2 c.in-95.is refl c.entry_in-in-95.ensures
 
 pub returns-in-124 : goal.returns-in-124
 returns-in-124 c =
     let a = c.args in
-    arm a.hardblank.0 a.left.0 a.kind c.if-left-hardblank.false 124 3 c.in-124.is refl c.entry_in-in-124.ensures
+    arm a.hardblank.0 a.left.0 a.kind (eqb-false _ _ (sym c.if-eq.ensures)) 124 3 c.in-124.is refl c.entry_in-in-124.ensures
 
 pub returns-in-47 : goal.returns-in-47
 returns-in-47 c =
     let a = c.args in
-    arm a.hardblank.0 a.left.0 a.kind c.if-left-hardblank.false 47 4 c.in-47.is refl c.entry_in-in-47.ensures
+    arm a.hardblank.0 a.left.0 a.kind (eqb-false _ _ (sym c.if-eq.ensures)) 47 4 c.in-47.is refl c.entry_in-in-47.ensures
 
 pub returns-in-92 : goal.returns-in-92
 returns-in-92 c =
     let a = c.args in
-    arm a.hardblank.0 a.left.0 a.kind c.if-left-hardblank.false 92 5 c.in-92.is refl c.entry_in-in-92.ensures
+    arm a.hardblank.0 a.left.0 a.kind (eqb-false _ _ (sym c.if-eq.ensures)) 92 5 c.in-92.is refl c.entry_in-in-92.ensures
 
 pub returns-in-91 : goal.returns-in-91
 returns-in-91 c =
     let a = c.args in
-    arm a.hardblank.0 a.left.0 a.kind c.if-left-hardblank.false 91 6 c.in-91.is refl c.entry_in-in-91.ensures
+    arm a.hardblank.0 a.left.0 a.kind (eqb-false _ _ (sym c.if-eq.ensures)) 91 6 c.in-91.is refl c.entry_in-in-91.ensures
 
 pub returns-in-93 : goal.returns-in-93
 returns-in-93 c =
     let a = c.args in
-    arm a.hardblank.0 a.left.0 a.kind c.if-left-hardblank.false 93 7 c.in-93.is refl c.entry_in-in-93.ensures
+    arm a.hardblank.0 a.left.0 a.kind (eqb-false _ _ (sym c.if-eq.ensures)) 93 7 c.in-93.is refl c.entry_in-in-93.ensures
 
 pub returns-in-123 : goal.returns-in-123
 returns-in-123 c =
     let a = c.args in
-    arm a.hardblank.0 a.left.0 a.kind c.if-left-hardblank.false 123 8 c.in-123.is refl c.entry_in-in-123.ensures
+    arm a.hardblank.0 a.left.0 a.kind (eqb-false _ _ (sym c.if-eq.ensures)) 123 8 c.in-123.is refl c.entry_in-in-123.ensures
 
 pub returns-in-125 : goal.returns-in-125
 returns-in-125 c =
     let a = c.args in
-    arm a.hardblank.0 a.left.0 a.kind c.if-left-hardblank.false 125 9 c.in-125.is refl c.entry_in-in-125.ensures
+    arm a.hardblank.0 a.left.0 a.kind (eqb-false _ _ (sym c.if-eq.ensures)) 125 9 c.in-125.is refl c.entry_in-in-125.ensures
 
 pub returns-in-40 : goal.returns-in-40
 returns-in-40 c =
     let a = c.args in
-    arm a.hardblank.0 a.left.0 a.kind c.if-left-hardblank.false 40 10 c.in-40.is refl c.entry_in-in-40.ensures
+    arm a.hardblank.0 a.left.0 a.kind (eqb-false _ _ (sym c.if-eq.ensures)) 40 10 c.in-40.is refl c.entry_in-in-40.ensures
 
 pub returns-in-41 : goal.returns-in-41
 returns-in-41 c =
     let a = c.args in
-    arm a.hardblank.0 a.left.0 a.kind c.if-left-hardblank.false 41 11 c.in-41.is refl c.entry_in-in-41.ensures
+    arm a.hardblank.0 a.left.0 a.kind (eqb-false _ _ (sym c.if-eq.ensures)) 41 11 c.in-41.is refl c.entry_in-in-41.ensures
 
 pub returns-in-60 : goal.returns-in-60
 returns-in-60 c =
     let a = c.args in
-    arm a.hardblank.0 a.left.0 a.kind c.if-left-hardblank.false 60 12 c.in-60.is refl c.entry_in-in-60.ensures
+    arm a.hardblank.0 a.left.0 a.kind (eqb-false _ _ (sym c.if-eq.ensures)) 60 12 c.in-60.is refl c.entry_in-in-60.ensures
 
 pub returns-in-62 : goal.returns-in-62
 returns-in-62 c =
     let a = c.args in
-    arm a.hardblank.0 a.left.0 a.kind c.if-left-hardblank.false 62 13 c.in-62.is refl c.entry_in-in-62.ensures
+    arm a.hardblank.0 a.left.0 a.kind (eqb-false _ _ (sym c.if-eq.ensures)) 62 13 c.in-62.is refl c.entry_in-in-62.ensures
 
 pub returns-in_default : goal.returns-in_default
 returns-in_default c =
     let a = c.args in
     let r = c.in_default.in_default-own.rest in
-    c.entry_in-in_default.ensures ∙ ap (λ (i : ℕ). rule_entry i a.kind) (kind_other a.hardblank.0 a.left.0 c.if-left-hardblank.false r.0.0.0.0.0.0.0.0.0.0.0.0.1 r.0.0.0.0.0.0.0.0.0.0.0.1 r.0.0.0.0.0.0.0.0.0.0.1 r.0.0.0.0.0.0.0.0.0.1 r.0.0.0.0.0.0.0.0.1 r.0.0.0.0.0.0.0.1 r.0.0.0.0.0.0.1 r.0.0.0.0.0.1 r.0.0.0.0.1 r.0.0.0.1 r.0.0.1 r.0.1 r.1)
+    c.entry_in-in_default.ensures ∙ ap (λ (i : ℕ). rule_entry i a.kind) (kind_other a.hardblank.0 a.left.0 (eqb-false _ _ (sym c.if-eq.ensures)) r.0.0.0.0.0.0.0.0.0.0.0.0.1 r.0.0.0.0.0.0.0.0.0.0.0.1 r.0.0.0.0.0.0.0.0.0.0.1 r.0.0.0.0.0.0.0.0.0.1 r.0.0.0.0.0.0.0.0.1 r.0.0.0.0.0.0.0.1 r.0.0.0.0.0.0.1 r.0.0.0.0.0.1 r.0.0.0.0.1 r.0.0.0.1 r.0.0.1 r.0.1 r.1)

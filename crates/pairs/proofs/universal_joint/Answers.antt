@@ -1,16 +1,16 @@
 -- `pairs::universal_joint` meets its contract.
-use borrow.Author.Tests.{eq-eqb, ne_eqb}
+use mathlib.Core.Path.{sym}
 use Rattle.pairs.specs.Pair.{universal}
 use Rattle.pairs.proofs.universal_joint.Goals as goal
 
-pub returns-then-left-hardblank : goal.returns-then-left-hardblank
+pub returns-then-eq : goal.returns-then-eq
 unfolding universal
-returns-then-left-hardblank c = simp (eq-eqb _ _ c.if-left-hardblank.true)
+returns-then-eq c = simp (sym c.if-eq.ensures)
 
-pub returns-then-right-hardblank : goal.returns-then-right-hardblank
+pub returns-then-eq-2 : goal.returns-then-eq-2
 unfolding universal
-returns-then-right-hardblank c = simp (ne_eqb _ _ c.if-left-hardblank.false, eq-eqb _ _ c.if-right-hardblank.true)
+returns-then-eq-2 c = simp (sym c.if-eq.ensures, sym c.if-eq-2.ensures)
 
 pub returns : goal.returns
 unfolding universal
-returns c = simp (ne_eqb _ _ c.if-left-hardblank.false, ne_eqb _ _ c.if-right-hardblank.false, ← c.later_of.ensures)
+returns c = simp (sym c.if-eq.ensures, sym c.if-eq-2.ensures, ← c.later_of.ensures)
