@@ -90,12 +90,7 @@ pub fn compare_line(area: &[u8], mode: Mode, w: usize, h: usize, figure: &[u8]) 
 }
 
 // Where the right overlaps first differ from as many of a list, with one right overlap more, which has number k.
-fn compare_next(
-    wrong: Option<usize>,
-    k: usize,
-    right: usize,
-    overlaps: &[usize],
-) -> Option<usize>
+fn compare_next(wrong: Option<usize>, k: usize, right: usize, overlaps: &[usize]) -> Option<usize>
     ensures { (before : List ℕ) → length before ≡ k → wrong ≡ so_far before overlaps.now → result ≡ so_far (before ++ (right ∷ [])) overlaps.now }
 {
     if k < overlaps.len() && overlaps[k] == right {

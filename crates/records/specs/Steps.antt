@@ -1,6 +1,6 @@
 -- What one call of the walkers answers.
 -- Assumes nothing.
-use Rattle.std.specs.Prelude.{◌≡◌, ℕ, ◌+◌, ◌≤◌, Bool, true, cond, not, ◌&&◌, List, [], ◌∷◌, eqb, length, drop, Option, Some, None}
+use Rattle.std.specs.Prelude.{◌≡◌, ℕ, ◌+◌, ◌≤◌, Bool, true, cond, ◌&&◌, List, [], ◌∷◌, length, drop, Option, Some, None, Result, Ok, Err}
 use Rattle.ground.specs.Limits.{max_height}
 use Rattle.ground.specs.Runs.{all}
 use Rattle.records.specs.declared.Head.{Head}
@@ -8,10 +8,6 @@ use Rattle.records.specs.declared.Record.{Record}
 use Rattle.records.specs.declared.Scan.{Scan}
 use Rattle.records.specs.declared.Scan.TheVariants as scanned
 use Rattle.records.specs.declared.Place.{Place}
-use Rattle.records.specs.declared.Wanted.{Wanted}
-use Rattle.records.specs.declared.Wanted.TheVariants.{Live, Free}
-use Rattle.records.specs.declared.Met.{Met}
-use Rattle.records.specs.declared.Met.TheVariants.{At, End}
 use Rattle.records.specs.Records.{is_zero, is_live, code_in, width_in, size_in, good_record, RecordList, record_list, none_twice, live_count}
 
 -- The record at the start of a list.
@@ -32,15 +28,14 @@ pub record Walkable (f : Head) (s : List ℕ) (from : ℕ) : Type 0 where
   pub inside : from ≤ length s
   pub whole : (record_list f (drop from s)).whole ≡ true
 
--- Whether a record is the one that a walk seeks.
-abbrev pub is_wanted : Wanted → Record → Bool
-is_wanted (Live c) r = r.live && eqb r.code c
-is_wanted (Free w) r = not r.live && eqb r.width w
+-- A closure answers what a test says.
+abbrev pub Tests : (Record → Bool → Type 0) → (Record → Bool) → Type 0
+Tests post p = (r : Record) (b : Bool) → post r b → b ≡ p r
 
--- The first record that is wanted, where the first record starts at a place.
-unfoldable pub met_in : Head → Wanted → ℕ → List (List ℕ) → Met
-met_in f wanted at [] = End at
-met_in f wanted at (r ∷ rs) = cond (is_wanted wanted (record_at f r)) (At (record { at = at; width = width_in f r })) (met_in f wanted (at + length r) rs)
+-- The first record that passes a test, where the first record starts at a place; or else where the records end.
+unfoldable pub first_in : Head → (Record → Bool) → ℕ → List (List ℕ) → Result Place ℕ
+first_in f p at [] = Err at
+first_in f p at (r ∷ rs) = cond (p (record_at f r)) (Ok (record { at = at; width = width_in f r })) (first_in f p (at + length r) rs)
 
 -- The number of live records, after n of them, if each record is good and all is zero behind the last.
 unfoldable pub counted_from : ℕ → RecordList → Option ℕ

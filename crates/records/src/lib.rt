@@ -1,14 +1,15 @@
 // The records of a pack: one at the start of a part of the pack, and what is found among them.
 #![tactic(auto)]
 
-ghost use Rattle.std.specs.Prelude.{◌≡◌, true, ◌&&◌, ◌+◌, ◌≤◌, ◌<◌, length, drop};
+ghost use Rattle.std.specs.Prelude.{◌≡◌, Bool, true, ◌&&◌, ◌+◌, ◌≤◌, ◌<◌, length, drop};
 ghost use Rattle.ground.specs.Limits.{max_height};
 ghost use Rattle.ground.specs.Runs.{all};
+ghost use Rattle.records.specs.declared.Record.{Record};
 ghost use Rattle.records.specs.Codes.{bits_of};
 ghost use Rattle.records.specs.Versions.{head_length, width_length, record_head_length, max_width};
 ghost use Rattle.records.specs.Records.{is_zero, good_fields, record_list, has_live, none_twice};
 ghost use Rattle.records.specs.Places.{place_in, spot_in};
-ghost use Rattle.records.specs.Steps.{scan_of, skim_of, Walkable, is_wanted, met_in, counted_from, soundness};
+ghost use Rattle.records.specs.Steps.{scan_of, skim_of, Walkable, Tests, first_in, counted_from, soundness};
 
 use areas::number_at;
 use ground::limits;
@@ -52,20 +53,6 @@ pub struct Place {
 pub enum Spot {
     Free(usize),
     Tail(usize),
-}
-
-// What a walk over the records seeks: the live record of a code, or a free one of a width.
-#[derive(Clone, Copy, PartialEq, Eq)]
-pub enum Wanted {
-    Live(usize),
-    Free(usize),
-}
-
-// Where the first record that is wanted is, or else where the records end.
-#[derive(Clone, Copy, PartialEq, Eq)]
-pub enum Met {
-    At(Place),
-    End(usize),
 }
 
 // Status and code of a record, before its width.
@@ -123,6 +110,7 @@ fn is_zeros(t: &[u8]) -> bool
 }
 
 // Whether status, code and width may stand in a record.
+#[tactic(auto, unfolding(crate::specs::Records::good_fields))]
 fn are_good_fields(version: usize, status: u8, code: usize, width: usize) -> bool
     ensures { result ≡ good_fields version status code width }
 {
@@ -188,30 +176,26 @@ pub fn skim_part(head: Head, t: &[u8]) -> Option<Record>
     })
 }
 
-// Whether a record is the one that is wanted.
-fn is_wanted(wanted: Wanted, found: Record) -> bool
-    ensures { result ≡ is_wanted wanted found }
-{
-    match wanted {
-        Wanted::Live(code) => found.live && found.code == code,
-        Wanted::Free(width) => !found.live && found.width == width,
-    }
-}
-
-// The first record that is wanted, from a place on.
-fn first_from(head: Head, s: &[u8], from: usize, wanted: Wanted) -> Met
-    requires { Walkable head s.now from }
-    ensures { result ≡ met_in head wanted from (record_list head (drop from s.now)).records }
+// The first record that passes a test, from a place on; or else where the records end.
+fn first_from<F: Fn(Record) -> bool>(
+    head: Head,
+    s: &[u8],
+    from: usize,
+    wanted: F,
+) -> Result<Place, usize>
+    requires callable { F.IsAlwaysCallable wanted }
+    requires walkable { Walkable head s.now from }
+    ensures { (p : Record → Bool) → Tests (F.post wanted) p → result ≡ first_in head p from (record_list head (drop from s.now)).records }
 {
     let mut at = from;
     while let Some(found) = skim_part(head, &s[at..]) {
-        if is_wanted(wanted, found) {
+        if wanted(found) {
             let width = found.width;
-            return Met::At(Place { at, width });
+            return Ok(Place { at, width });
         }
         at += found.size;
     }
-    Met::End(at)
+    Err(at)
 }
 
 // Where the live record of a code is, from a place on.
@@ -219,10 +203,7 @@ pub fn find_from(head: Head, s: &[u8], from: usize, code: usize) -> Option<Place
     requires { Walkable head s.now from }
     ensures { result ≡ place_in head code from (record_list head (drop from s.now)).records }
 {
-    match first_from(head, s, from, Wanted::Live(code)) {
-        Met::At(place) => Some(place),
-        Met::End(_) => None,
-    }
+    first_from(head, s, from, |found| found.live && found.code == code).ok()
 }
 
 // The first free record of a width, or the end of the records, from a place on.
@@ -230,9 +211,9 @@ pub fn spot_from(head: Head, s: &[u8], from: usize, width: usize) -> Spot
     requires { Walkable head s.now from }
     ensures { result ≡ spot_in head width from (record_list head (drop from s.now)).records }
 {
-    match first_from(head, s, from, Wanted::Free(width)) {
-        Met::At(place) => Spot::Free(place.at),
-        Met::End(at) => Spot::Tail(at),
+    match first_from(head, s, from, |found| !found.live && found.width == width) {
+        Ok(place) => Spot::Free(place.at),
+        Err(at) => Spot::Tail(at),
     }
 }
 

@@ -49,7 +49,6 @@ returns-then-overlaps-saturating_sub c = λ trace so.
     ap Err c.of-then-overlaps-saturating_sub.ensures ∙ tally_25 trace a.overlaps.now (drawing (goal.at.returns-then-overlaps-saturating_sub c).Start) a.figure.now a.tally (so l) (λ e. c.if-overlaps-saturating_sub.true (e ∙ sym c.saturating_sub.ensures))
     ∙ sym (not_too_wide a.mode.hardblank.0 a.h (line_of (goal.at.returns-then-overlaps-saturating_sub c).Start) trace a.overlaps.now a.figure.now l)
 
-
 -- the same of what is known of both
 module _ (s : Start) (trace : List ℕ) (so : Traced s trace) (l : s.args.w ≤ max_line_width) (e : length s.args.overlaps.now ≡ s.args.tally.drawn - 1) where
   found : (wrong bytes : Option ℕ) → s.args.tally.wrong ≡ wrong → bytes ≡ first_difference (drawing s) s.args.figure.now → Ok (named wrong bytes) ≡ checked s trace
