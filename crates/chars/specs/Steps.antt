@@ -22,23 +22,23 @@ use Rattle.chars.specs.Chars.{entry}
 abbrev pub Next : Type 0
 Next = Result (Option Listed) Refusal
 
-abbrev pub listed : Entry → Cursor → Listed
-listed e next = record { entry = e; next = next }
+abbrev pub listed_with : Entry → Cursor → Listed
+listed_with e next = record { entry = e; next = next }
 
 -- The character of a code, whose first row line is at a place.
 abbrev pub listed_then : Result Rows Refusal → Code → ℕ → Next
-listed_then (Ok x) c at = Ok (Some (listed (entry c at x.width) x.next))
+listed_then (Ok x) c at = Ok (Some (listed_with (entry c at x.width) x.next))
 listed_then (Err r) c at = Err r
 
 unfoldable pub listed_at : Format → List ℕ → ℕ → Code → Next
 listed_at f s at c = listed_then (char_at f s at) c at
 
 -- The tag line at a place.
-abbrev pub tag_line : Code → Cursor → TagLine
-tag_line c next = record { code = c; next = next }
+abbrev pub tag_with : Code → Cursor → TagLine
+tag_with c next = record { code = c; next = next }
 
 abbrev pub tag_then : Option Code → Cursor → Option TagLine
-tag_then (Some c) next = Some (tag_line c next)
+tag_then (Some c) next = Some (tag_with c next)
 tag_then None next = None
 
 unfoldable pub tag_at : List ℕ → ℕ → Option TagLine
