@@ -161,11 +161,15 @@ pub fn overlap_of(
     match layout {
         VerticalLayout::FullHeight => 0,
         VerticalLayout::Fitting => fitting_rows(hardblank, upper, lower),
-        VerticalLayout::Smushing(VerticalSmushing::Controlled(set)) if set / 4096 % 2 == 1 => {
-            supersmushing_rows(set, hardblank, upper, lower)
-        }
-        VerticalLayout::Smushing(_) => {
+        VerticalLayout::Smushing(VerticalSmushing::Universal) => {
             smushing_rows(PairTest::ByLayout(layout), hardblank, upper, lower)
+        }
+        VerticalLayout::Smushing(VerticalSmushing::Controlled(set)) => {
+            if set / 4096 % 2 == 1 {
+                supersmushing_rows(set, hardblank, upper, lower)
+            } else {
+                smushing_rows(PairTest::ByLayout(layout), hardblank, upper, lower)
+            }
         }
     }
 }
