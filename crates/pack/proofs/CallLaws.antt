@@ -32,9 +32,9 @@ use Rattle.edits.proofs.PlaceLaws.{place-removed, place-live, spot_placed, free-
 use Rattle.heads.specs.declared.Opened.{Opened}
 use Rattle.heads.specs.Pack.{Pack, says, damaged, meaning, remade, opened_by}
 use Rattle.std.specs.Prelude.{Option, Some, None, is_some, ok_or, Result, Ok, Err}
-use Rattle.pack.specs.declared.Accepted.{Accepted}
+use Rattle.std.specs.Result.{IsErrAnd}
+use Rattle.std.proofs.lemmas.Result.{err_from_is_err_and}
 use Rattle.pack.specs.declared.Located.{Located}
-use Rattle.pack.specs.declared.Found.{Found}
 use Rattle.pack.specs.Calls.{opened_or_refused, check_told, located_at, located_in, found_at, find_told, rows_part, rows_told, LiesIn, Changes, removal, good_letter, has_room, insertion, compaction}
 use Rattle.heads.proofs.FindLaws.{records_are, place_in_lem}
 use Rattle.heads.proofs.OpenLaws.{Opens, opens_of, Told, pack_wholes, pack_bytes, head-size, pack_fits, remade-is}
@@ -47,6 +47,10 @@ ok_place None r p e = clash (cc)
 pub err_place : (x : Option Place) (r b : Refusal) → Err b ≡ ok_or x r → (b ≡ r) × (None ≡ x)
 err_place (Some q) r b e = clash (cc)
 err_place None r b e = let k : b ≡ r = cc in (k, refl)
+
+-- What the exit of a `?` returns.
+pub err_is : {T : Type 0} (r : Result T Refusal) (e : Refusal) → IsErrAnd r (λ x. x ≡ e) → r ≡ Err e
+err_is r e h = let p = err_from_is_err_and r h in p.1 ∙ ap Err p.2
 
 -- What a pack that is opened says, or that it is damaged.
 pub opened_is : (p : Pack) → ok_or (opened_by p) (refusal damaged_pack 0) ≡ opened_or_refused p

@@ -14,7 +14,7 @@ use Rattle.areas.specs.Laid.{laid}
 use Rattle.areas.proofs.LaidLaws.{length-laid}
 use Rattle.records.specs.declared.Head.{Head}
 use Rattle.records.specs.declared.Place.{Place}
-use Rattle.std.specs.Prelude.{Option, Some, None, is_some, Result, Ok, Err}
+use Rattle.std.specs.Prelude.{Option, Some, None, is_some, Ok, Err}
 use Rattle.records.specs.declared.Spot.{Spot}
 use Rattle.records.specs.declared.Spot.TheVariants.{Free, Tail}
 use Rattle.records.specs.Versions.{head_length}

@@ -25,7 +25,6 @@ use Rattle.edits.specs.Changes.{has_free, removed, placed, new_record}
 use Rattle.heads.specs.Pack.{Pack, says, damaged, meaning}
 use Rattle.std.specs.Prelude.{Option, Some, None, is_some, Result, Ok, Err}
 use Rattle.pack.specs.declared.Accepted.{Accepted}
-use Rattle.pack.specs.declared.Located.{Located}
 use Rattle.pack.specs.declared.Found.{Found}
 use Rattle.pack.specs.Calls.{check_told, located_at, located_in, found_at, find_told, changed, refused, tells, removal, good_letter, has_room, insertion, compaction}
 

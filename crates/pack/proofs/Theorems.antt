@@ -14,7 +14,7 @@ use Rattle.ground.specs.Runs.{all, joined}
 use Rattle.ground.proofs.Tests.{and_left, and_right}
 use Rattle.records.specs.declared.Head.{Head}
 use Rattle.records.specs.declared.Place.{Place}
-use Rattle.std.specs.Prelude.{Option, Some, None, Result, Ok, Err}
+use Rattle.std.specs.Prelude.{Option, Some, None, Result, Err}
 use Rattle.ground.specs.declared.refusals.Refusal.{Refusal}
 use Rattle.records.specs.Versions.{head_length, record_head_length, max_width}
 use Rattle.records.proofs.VersionLaws.{head_length_low}

@@ -1,9 +1,6 @@
 -- `pack::compact` meets its contract.
-use mathlib.Core.Path.{sym, subst}
-use Rattle.heads.specs.Pack.{meaning}
 use Rattle.heads.proofs.FindLaws.{walkable}
-use Rattle.pack.specs.Calls.{Changes, compaction}
-use Rattle.pack.proofs.CallLaws.{opened_told, compact_done, compact_damaged}
+use Rattle.pack.proofs.CallLaws.{err_is, opened_told, compact_done, compact_damaged}
 use Rattle.pack.proofs.compact.Goals as goal
 
 pub squeeze-requires : goal.squeeze-requires
@@ -21,4 +18,4 @@ returns c =
     compact_done s o.head t.records t.says_so c.head_length.result c.head_length.ensures c.squeeze.new.area c.squeeze.ensures
 
 pub returns-in_err-head : goal.returns-in_err-head
-returns-in_err-head c = rw c.from_residual.ensures (compact_damaged c.args.pack.now _ c.in_err-head.ensures)
+returns-in_err-head c = rw (err_is c.from_residual.result _ c.from_residual.ensures.1) (compact_damaged c.args.pack.now _ c.in_err-head.ensures)

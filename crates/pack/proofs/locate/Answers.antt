@@ -1,16 +1,16 @@
 -- `pack::locate` meets its contract.
-use mathlib.Core.Path.{sym, ap, ◌∙◌}
+use mathlib.Core.Path.{ap, ◌∙◌}
 use native.Mathlib.Omega.{arith}
 use Prim.Native.Nat.{ℕ, ◌+◌, ◌*◌}
 use Rattle.std.specs.Prelude.{Some, None, Ok, Err}
 use Rattle.heads.specs.Pack.{meaning}
 use Rattle.pack.specs.Calls.{located_in}
 use Rattle.heads.proofs.FindLaws.{walkable, found, place_in_lem}
-use Rattle.pack.proofs.CallLaws.{ok_place, err_place, opened_told, locate_bad, locate_place, locate_damaged}
+use Rattle.pack.proofs.CallLaws.{err_is, ok_place, err_place, opened_told, locate_bad, locate_place, locate_damaged}
 use Rattle.pack.proofs.locate.Goals as goal
 
 pub returns-in_err-head : goal.returns-in_err-head
-returns-in_err-head c = c.from_residual.ensures ∙ locate_damaged c.args.pack.now _ c.in_err-head.ensures _
+returns-in_err-head c = err_is c.from_residual.result _ c.from_residual.ensures.1 ∙ locate_damaged c.args.pack.now _ c.in_err-head.ensures _
 
 pub returns-then-bits-eq-MINUS_ONE : goal.returns-then-bits-eq-MINUS_ONE
 returns-then-bits-eq-MINUS_ONE c =
@@ -35,7 +35,7 @@ returns-in_err-letter c =
     let h = c.head_length in
     let e = err_place c.find_from-found.result c.of-2.result _ c.in_err-letter.ensures.value in
     let p = found s o.head t.records t.says_so n.result h.result None h.ensures (e.1 ∙ c.find_from-found.ensures) in
-    c.from_residual-in_err-letter.ensures ∙ ap Err (e.0 ∙ c.of-2.ensures) ∙ locate_place s o.head t.records t.says_so n.result c.if-bits-eq-MINUS_ONE.false None p ∙ ap (located_in (meaning s)) n.ensures
+    err_is c.from_residual-in_err-letter.result _ c.from_residual-in_err-letter.ensures.1 ∙ ap Err (e.0 ∙ c.of-2.ensures) ∙ locate_place s o.head t.records t.says_so n.result c.if-bits-eq-MINUS_ONE.false None p ∙ ap (located_in (meaning s)) n.ensures
 
 pub overflow_add-place : goal.overflow_add-place
 overflow_add-place c =

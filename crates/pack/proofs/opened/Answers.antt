@@ -1,5 +1,5 @@
 -- `pack::opened` meets its contract.
-use mathlib.Core.Path.{ap, ap₂, ◌∙◌}
+use mathlib.Core.Path.{ap₂, ◌∙◌}
 use Rattle.std.specs.Prelude.{ok_or}
 use Rattle.heads.specs.Pack.{meaning}
 use Rattle.pack.proofs.CallLaws.{opened_is}

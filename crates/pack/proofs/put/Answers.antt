@@ -11,11 +11,11 @@ use Rattle.heads.specs.Pack.{meaning}
 use Rattle.pack.specs.Calls.{Changes, insertion}
 use Rattle.records.proofs.CodeLaws.{bits_small}
 use Rattle.heads.proofs.FindLaws.{low}
-use Rattle.pack.proofs.CallLaws.{opened_told, put_bad, put_damaged}
+use Rattle.pack.proofs.CallLaws.{err_is, opened_told, put_bad, put_damaged}
 use Rattle.pack.proofs.put.Goals as goal
 
 pub returns-in_err-head : goal.returns-in_err-head
-returns-in_err-head c = rw c.from_residual.ensures (put_damaged c.args.pack.now _ c.in_err-head.ensures _ _ _)
+returns-in_err-head c = rw (err_is c.from_residual.result _ c.from_residual.ensures.1) (put_damaged c.args.pack.now _ c.in_err-head.ensures _ _ _)
 
 pub is_good_letter-requires : goal.is_good_letter-requires
 is_good_letter-requires c =

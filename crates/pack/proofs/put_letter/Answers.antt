@@ -9,7 +9,7 @@ use Rattle.records.specs.Versions.{head_length}
 use Rattle.records.proofs.VersionLaws.{width_length_high}
 use Rattle.records.proofs.WalkLaws.{place-has}
 use Rattle.heads.specs.Pack.{meaning}
-use Rattle.std.specs.Prelude.{is_some, Ok, Err}
+use Rattle.std.specs.Prelude.{is_some, Ok}
 use Rattle.pack.specs.Calls.{Changes, insertion}
 use Rattle.heads.proofs.FindLaws.{low, walkable, found, spotted}
 use Rattle.pack.proofs.CallLaws.{put_present, free-room, put_free, tail-inside, put_full, put_tail, rows_few}

@@ -1,5 +1,5 @@
 -- `pack::remove` meets its contract.
-use mathlib.Core.Path.{sym, ◌∙◌, subst}
+use mathlib.Core.Path.{◌∙◌, subst}
 use native.Mathlib.Omega.{arith}
 use Prim.Native.Nat.{ℕ}
 use lib.ListN.{set}
@@ -7,11 +7,11 @@ use Rattle.std.specs.Prelude.{Some, None, Ok, Err}
 use Rattle.heads.specs.Pack.{meaning}
 use Rattle.pack.specs.Calls.{Changes, removal}
 use Rattle.heads.proofs.FindLaws.{walkable, found, place_in_lem}
-use Rattle.pack.proofs.CallLaws.{ok_place, err_place, opened_told, remove_bad, remove_absent, remove_done, remove_damaged}
+use Rattle.pack.proofs.CallLaws.{err_is, ok_place, err_place, opened_told, remove_bad, remove_absent, remove_done, remove_damaged}
 use Rattle.pack.proofs.remove.Goals as goal
 
 pub returns-in_err-head : goal.returns-in_err-head
-returns-in_err-head c = rw c.from_residual.ensures (remove_damaged c.args.pack.now _ c.in_err-head.ensures _)
+returns-in_err-head c = rw (err_is c.from_residual.result _ c.from_residual.ensures.1) (remove_damaged c.args.pack.now _ c.in_err-head.ensures _)
 
 pub returns-then-bits-eq-MINUS_ONE : goal.returns-then-bits-eq-MINUS_ONE
 returns-then-bits-eq-MINUS_ONE c =
@@ -36,7 +36,7 @@ returns-in_err-letter c =
     let h = c.head_length in
     let e = err_place c.find_from-found.result c.of-2.result _ c.in_err-letter.ensures.value in
     let p = found s o.head t.records t.says_so n.result h.result None h.ensures (e.1 ∙ c.find_from-found.ensures) in
-    rw c.from_residual-in_err-letter.ensures (subst (λ (j : ℕ). Changes (removal (meaning s) j) s (Err _) s) n.ensures (remove_absent s o.head t.records t.says_so n.result c.if-bits-eq-MINUS_ONE.false p _ (e.0 ∙ c.of-2.ensures)))
+    rw (err_is c.from_residual-in_err-letter.result _ c.from_residual-in_err-letter.ensures.1) (subst (λ (j : ℕ). Changes (removal (meaning s) j) s (Err c.in_err-letter.field-0.0) s) n.ensures (remove_absent s o.head t.records t.says_so n.result c.if-bits-eq-MINUS_ONE.false p _ (e.0 ∙ c.of-2.ensures)))
 
 pub bounds-pack-letter : goal.bounds-pack-letter
 bounds-pack-letter c =
