@@ -100,12 +100,7 @@ fn good_block(tallest: usize, block: Lent) -> bool
 
 // Whether a stack is not refused under 17.
 #[tactic(auto, unfolding(crate::specs::StackCall::good_stack))]
-fn good_stack(
-    layout: VerticalLayout,
-    hardblank: SubCharacter,
-    upper: Lent,
-    lower: Lent,
-) -> bool
+fn good_stack(layout: VerticalLayout, hardblank: SubCharacter, upper: Lent, lower: Lent) -> bool
     ensures { result ≡ good_stack layout hardblank.0 upper.entry.height upper.entry.width (length upper.entry.bytes.now) lower.entry.height lower.entry.width (length lower.entry.bytes.now) }
 {
     good_block(limits::MAX_STACK_HEIGHT, upper)

@@ -36,8 +36,8 @@ returns c =
     let u = c.placed in
     let l = c.placed-2 in
     let as_lent : stacked a.layout a.hardblank.0 u.result.height (placed_block u.result) l.result.height (placed_block l.result)
-        ≡ stacked a.layout a.hardblank.0 a.upper_height (exact_block a.upper_width a.upper.now) a.lower_height (exact_block a.lower_width a.lower.now) =
-        ap₂ (λ (n : ℕ) (b : Block). stacked a.layout a.hardblank.0 n b l.result.height (placed_block l.result)) u.ensures.0 u.ensures.1
-        ∙ ap₂ (λ (m : ℕ) (b : Block). stacked a.layout a.hardblank.0 a.upper_height (exact_block a.upper_width a.upper.now) m b) l.ensures.0 l.ensures.1 in
+    ≡ stacked a.layout a.hardblank.0 a.upper_height (exact_block a.upper_width a.upper.now) a.lower_height (exact_block a.lower_width a.lower.now) =
+    ap₂ (λ (n : ℕ) (b : Block). stacked a.layout a.hardblank.0 n b l.result.height (placed_block l.result)) u.ensures.0 u.ensures.1
+    ∙ ap₂ (λ (m : ℕ) (b : Block). stacked a.layout a.hardblank.0 a.upper_height (exact_block a.upper_width a.upper.now) m b) l.ensures.0 l.ensures.1 in
     good a.layout a.hardblank.0 a.upper_height a.upper_width a.upper.now a.lower_height a.lower_width a.lower.now (length a.out.now) _ _ (is_good (goal.at.returns c).Else-not-good_stack)
     (subst (λ (s : Stack). PutStack s 0 (length a.out.now) c.put_stack.result c.put_stack.new.out) as_lent c.put_stack.ensures)

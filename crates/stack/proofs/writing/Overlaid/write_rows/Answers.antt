@@ -28,13 +28,13 @@ loop-r-preserved c =
     let next = c.if-lf_ended in
     let room = row_room l.r (rows_high a.self.now) (w + lfs a.lf_ended) (omega (arith, c.loop-r-test.true, c.height-r-end.ensures)) in
     let place : next.at ≡ l.at + (w + lfs a.lf_ended) =
-        elim next.branch [
-          | then-lf_ended v ↦ rw v.if-lf_ended.true (omega (arith, v.at-is, c.width-width.ensures))
-          | else-lf_ended v ↦ rw v.if-lf_ended.false (omega (arith, v.at-is, c.width-width.ensures))
-        ] in
+    elim next.branch [
+      | then-lf_ended v ↦ rw v.if-lf_ended.true (omega (arith, v.at-is, c.width-width.ensures))
+      | else-lf_ended v ↦ rw v.if-lf_ended.false (omega (arith, v.at-is, c.width-width.ensures))
+    ] in
     let written : take (l.at + (w + lfs a.lf_ended)) next.out ≡ take l.at l.out ++ values (with_end w cells l.r) (w + lfs a.lf_ended) =
-        elim next.branch [
-          | then-lf_ended v ↦ rw (v.if-lf_ended.true, v.out-is, c.width-width.ensures) (written-lf w cells l.out row.new.out l.at l.r (omega (arith, ap lfs v.if-lf_ended.true, room, l.invariant.0, c.requires.in_bounds, row.auto.out, l.auto.out)) row.ensures)
-          | else-lf_ended v ↦ rw (v.if-lf_ended.false, v.out-is) (written-plain w cells l.out row.new.out l.at l.r row.ensures)
-        ] in
+    elim next.branch [
+      | then-lf_ended v ↦ rw (v.if-lf_ended.true, v.out-is, c.width-width.ensures) (written-lf w cells l.out row.new.out l.at l.r (omega (arith, ap lfs v.if-lf_ended.true, room, l.invariant.0, c.requires.in_bounds, row.auto.out, l.auto.out)) row.ensures)
+      | else-lf_ended v ↦ rw (v.if-lf_ended.false, v.out-is) (written-plain w cells l.out row.new.out l.at l.r row.ensures)
+    ] in
     rows_more w cells a.lf_ended l.out next.out l.at next.at l.r l.invariant.0 l.invariant.1 place written
