@@ -7,7 +7,6 @@ pub mod printing;
 ghost use Rattle.std.specs.Counts.{IsPrefixLen};
 ghost use Rattle.std.specs.Io.{ReadsAtMost};
 
-use lines::numbers::CodeNumber;
 use lines::{numbers, words};
 use std::io::{ErrorKind, Read};
 use std::rt::Files;
@@ -98,10 +97,7 @@ pub fn behind(line: &[u8]) -> &[u8] {
 
 // The code that a word names; a word that names none asks for code 0.
 pub fn code_of(word: &[u8]) -> Code {
-    match numbers::code_number(word) {
-        CodeNumber::Named(c) => c,
-        CodeNumber::NotCode => Code(0),
-    }
+    numbers::code_number(word).unwrap_or(Code(0))
 }
 
 // The row number that a word names, as far as it is one.

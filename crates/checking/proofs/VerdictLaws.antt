@@ -19,7 +19,7 @@ use Rattle.showing.proofs.Showing.{shown-like}
 use Rattle.showing.specs.Output.{shown}
 use Rattle.checking.specs.declared.Verdict.{Verdict}
 use Rattle.checking.specs.declared.Verdict.TheVariants.{Accepted, WrongOverlap, WrongByte}
-use Rattle.std.specs.Prelude.{Option, Some, None, Result, Ok, Err}
+use Rattle.std.specs.Prelude.{Option, Result, Ok, Err}
 use Rattle.checking.specs.Difference.{first_difference}
 use Rattle.checking.specs.Verdict.{after_first, named, verdict, line_checked}
 use Rattle.checking.proofs.DifferenceLaws.{Parts, differ, first_ends, second-ends, PartsFirst, Outcome, same, parted, outcome, same_exactly, differs_exactly}

@@ -56,20 +56,12 @@ fn compare_rows(
 {
     let need = h * (w + 1);
     let shorter = need.min(figure.len());
-    let mut r: usize = 0;
-    let mut k: usize = 0;
-    let mut i: usize = 0;
-    while i < shorter {
+    for i in 0..shorter {
+        let r = i / (w + 1);
+        let k = i % (w + 1);
         let x = shown_byte(area, r * limits::MAX_LINE_WIDTH + from, w, k, hardblank);
         if figure[i] != x {
             return Some(i);
-        }
-        i += 1;
-        if k < w {
-            k += 1;
-        } else {
-            k = 0;
-            r += 1;
         }
     }
     if need == figure.len() {

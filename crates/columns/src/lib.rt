@@ -3,7 +3,6 @@
 
 pub mod overlaps;
 
-
 ghost use Rattle.columns.specs.Lying.{Lies};
 
 use subchars::SubCharacter;

@@ -96,12 +96,7 @@ fn columns_pass(
 }
 
 // The smushing overlap by a test: the fitting one, or one more where every pair passes there.
-fn smushing_rows(
-    test: PairTest,
-    hardblank: SubCharacter,
-    upper: Placed,
-    lower: Placed,
-) -> usize
+fn smushing_rows(test: PairTest, hardblank: SubCharacter, upper: Placed, lower: Placed) -> usize
     ensures { result ≡ smushing (passes_by test) (min upper.entry.width lower.entry.width) upper.entry.height lower.entry.height (placed_columns hardblank.0 upper.entry) (placed_columns hardblank.0 lower.entry) }
 {
     let fit = fitting_rows(hardblank, upper, lower);
@@ -114,12 +109,7 @@ fn smushing_rows(
 }
 
 // The largest overlap at which, together with all smaller ones, every pair passes a test.
-fn furthest_rows(
-    test: PairTest,
-    hardblank: SubCharacter,
-    upper: Placed,
-    lower: Placed,
-) -> usize
+fn furthest_rows(test: PairTest, hardblank: SubCharacter, upper: Placed, lower: Placed) -> usize
     ensures { result ≡ furthest (passes_by test) (min upper.entry.width lower.entry.width) upper.entry.height lower.entry.height (placed_columns hardblank.0 upper.entry) (placed_columns hardblank.0 lower.entry) }
 {
     let most = upper.height.min(lower.height);
@@ -132,12 +122,7 @@ fn furthest_rows(
 }
 
 // The overlap of a set that has 4096.
-fn supersmushing_rows(
-    set: u16,
-    hardblank: SubCharacter,
-    upper: Placed,
-    lower: Placed,
-) -> usize
+fn supersmushing_rows(set: u16, hardblank: SubCharacter, upper: Placed, lower: Placed) -> usize
     ensures { result ≡ supersmushing set (min upper.entry.width lower.entry.width) upper.entry.height lower.entry.height (placed_columns hardblank.0 upper.entry) (placed_columns hardblank.0 lower.entry) }
 {
     let fit = fitting_rows(hardblank, upper, lower);
@@ -161,11 +146,15 @@ pub fn overlap_of(
     match layout {
         VerticalLayout::FullHeight => 0,
         VerticalLayout::Fitting => fitting_rows(hardblank, upper, lower),
-        VerticalLayout::Smushing(VerticalSmushing::Controlled(set)) if set / 4096 % 2 == 1 => {
-            supersmushing_rows(set, hardblank, upper, lower)
-        }
-        VerticalLayout::Smushing(_) => {
+        VerticalLayout::Smushing(VerticalSmushing::Universal) => {
             smushing_rows(PairTest::ByLayout(layout), hardblank, upper, lower)
+        }
+        VerticalLayout::Smushing(VerticalSmushing::Controlled(set)) => {
+            if set / 4096 % 2 == 1 {
+                supersmushing_rows(set, hardblank, upper, lower)
+            } else {
+                smushing_rows(PairTest::ByLayout(layout), hardblank, upper, lower)
+            }
         }
     }
 }

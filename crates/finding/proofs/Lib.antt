@@ -4,3 +4,4 @@ pub mod ToldApart
 pub mod Row
 pub mod Counted
 pub mod CallSmaller
+pub mod ReasonLaws

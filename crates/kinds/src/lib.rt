@@ -34,6 +34,7 @@ const PAIR_RULES: [[u8; 16]; 16] = [
 const OTHER: usize = 14;
 
 // The kind of a sub-character, and so its column.
+#[tactic(auto, unfolding(crate::specs::Kinds::kind_of))]
 fn kind_of(hardblank: SubCharacter, x: SubCharacter) -> usize
     ensures { result ≡ kind_of hardblank.0 x.0 }
 {
@@ -85,6 +86,7 @@ fn entry_in(row: [u8; 16], kind: usize) -> u8
 }
 
 // The entry of a column in the row of a left sub-character.
+#[tactic(auto, unfolding(crate::specs::Kinds::kind_of))]
 fn entry_of(hardblank: SubCharacter, left: SubCharacter, kind: usize) -> u8
     requires { kind < 16 }
     ensures { result ≡ rule_entry (kind_of hardblank.0 left.0) kind }

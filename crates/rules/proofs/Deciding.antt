@@ -60,14 +60,6 @@ numbered_by Hardblank = refl
 pub same_number : (p q : Rule) → rule_number p ≡ rule_number q → p ≡ q
 same_number p q e = sym (numbered_by p) ∙ (ap numbered e ∙ numbered_by q)
 
-pub no_other_number : (n : ℕ) → (n ≡ 1 → ⊥) → (n ≡ 2 → ⊥) → (n ≡ 4 → ⊥) → (n ≡ 8 → ⊥) → (n ≡ 16 → ⊥) → (p : Rule) → n ≡ rule_number p → Hardblank ≡ p
-no_other_number n a b c d e EqualCharacter q = absurd (a q)
-no_other_number n a b c d e Underscore q = absurd (b q)
-no_other_number n a b c d e Hierarchy q = absurd (c q)
-no_other_number n a b c d e OppositePair q = absurd (d q)
-no_other_number n a b c d e BigX q = absurd (e q)
-no_other_number n a b c d e Hardblank q = refl
-
 -- ------------------------------------------------------------------ a pair that a rule joins
 
 module _ (h l r : ℕ) where

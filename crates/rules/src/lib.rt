@@ -88,6 +88,7 @@ const MARKS: [Mark; 11] = [
 ];
 
 // The table's entry of a sub-character; class 0 where it has none.
+#[tactic(auto, using(crate::proofs::Table::not_marked))]
 fn mark_of(x: SubCharacter) -> Mark
     ensures { Marked x.0 result }
 {
@@ -155,6 +156,7 @@ fn marks_byte(left: SubCharacter, right: SubCharacter) -> SubCharacter
 }
 
 // What the rule that joins a pair makes of it. No pair is joined by two.
+#[tactic(auto, using(crate::proofs::Deciding::of_equal, crate::proofs::Deciding::underscore_right, crate::proofs::Deciding::underscore_left, crate::proofs::Deciding::no_underscore))]
 pub fn ruled_byte(left: SubCharacter, right: SubCharacter) -> SubCharacter
     ensures { (h x : ℕ) (p : Rule) → by_rule p h left.0 right.0 ≡ Some x → result.0 ≡ x }
 {

@@ -71,9 +71,7 @@ struct Lent<'a> {
 impl<'a> Lent<'a> {
     // Where its rows lie.
     fn placed(self) -> Placed<'a>
-        requires height { (1 ≤ self.height) × (self.height ≤ max_stack_height) }
-        requires width { self.width ≤ max_line_width }
-        requires bytes { length self.bytes.now ≡ self.height * self.width }
+        requires { (1 ≤ self.height) × (self.height ≤ max_stack_height) × (self.width ≤ max_line_width) × (length self.bytes.now ≡ self.height * self.width) }
         ensures { (result.height ≡ self.entry.height) × (placed_block result ≡ exact_block self.entry.width self.entry.bytes.now) }
     {
         Placed {
@@ -101,12 +99,8 @@ fn good_block(tallest: usize, block: Lent) -> bool
 }
 
 // Whether a stack is not refused under 17.
-fn good_stack(
-    layout: VerticalLayout,
-    hardblank: SubCharacter,
-    upper: Lent,
-    lower: Lent,
-) -> bool
+#[tactic(auto, unfolding(crate::specs::StackCall::good_stack))]
+fn good_stack(layout: VerticalLayout, hardblank: SubCharacter, upper: Lent, lower: Lent) -> bool
     ensures { result ≡ good_stack layout hardblank.0 upper.entry.height upper.entry.width (length upper.entry.bytes.now) lower.entry.height lower.entry.width (length lower.entry.bytes.now) }
 {
     good_block(limits::MAX_STACK_HEIGHT, upper)

@@ -106,11 +106,11 @@ module _ (layout : VerticalLayout) (u l : ℕ) where
     found : (j : Joint) → j ≡ joint (sideways y) u l → or_else (made_of j) behind ≡ merge layout u l
     found j e = ap (λ (i : Joint). or_else (made_of i) behind) e ∙ (ap (λ (z : Layout). or_else (made_of (joint (sideways z) u l)) behind) q ∙ by-sideways)
 
-    pub by-joint : (j : Joint) (x : SubCharacter) → (j ≡ ByBlank x) ⊎ ((j ≡ ByUniversal x) ⊎ ((rule : Rule) × (j ≡ ByRule rule x))) → j ≡ joint (sideways y) u l → Some x.0 ≡ merge layout u l
+    pub by_joint : (j : Joint) (x : SubCharacter) → (j ≡ ByBlank x) ⊎ ((j ≡ ByUniversal x) ⊎ ((rule : Rule) × (j ≡ ByRule rule x))) → j ≡ joint (sideways y) u l → Some x.0 ≡ merge layout u l
     unfolding or_else
-    by-joint j x (inl e) f = found _ (sym e ∙ f)
-    by-joint j x (inr (inl e)) f = found _ (sym e ∙ f)
-    by-joint j x (inr (inr (rule, e))) f = found _ (sym e ∙ f)
+    by_joint j x (inl e) f = found _ (sym e ∙ f)
+    by_joint j x (inr (inl e)) f = found _ (sym e ∙ f)
+    by_joint j x (inr (inr (rule, e))) f = found _ (sym e ∙ f)
 
     pub by_lines : (o : Option ℕ) → Unjoinable ≡ joint (sideways y) u l → o ≡ behind → o ≡ merge layout u l
     unfolding or_else

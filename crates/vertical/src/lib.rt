@@ -70,6 +70,7 @@ fn rules_of(layout: VerticalLayout) -> u16
 
 // What a pair becomes, u above l: blanks, universal smushing and the shared rules as sideways, where the right one is the later one; then
 // the rules for lines.
+#[tactic(auto, using(crate::proofs::Deciding::by_lines))]
 fn merge_of(layout: VerticalLayout, u: SubCharacter, l: SubCharacter) -> Option<SubCharacter>
     ensures { option_map (λ (x : SubCharacter). x.0) result ≡ merge layout u.0 l.0 }
 {

@@ -47,13 +47,13 @@ lay-requires c =
     let a = s.args in
     let d = a.mode.direction in
     let o = c.over-o.result in
-    let at : Picked d (a.n - o) (max_line_width - (a.n + a.m - o)) c.by_direction-at.result = (c.by_direction-at.ensures.value, c.by_direction-at.ensures.value_2) in
-    let face : Picked d 0 (a.m - o) c.by_direction-p.result = (c.by_direction-p.ensures.value, c.by_direction-p.ensures.value_2) in
+    let at : Picked d (a.n - o) (max_line_width - (a.n + a.m - o)) c.on_left-at.result = c.on_left-at.ensures in
+    let face : Picked d 0 (a.m - o) c.on_left-p.result = c.on_left-p.ensures in
     let on : o ≤ a.n = omega (arith, low (goal.at.lay-requires c).After-over-o) in
     let om : o ≤ a.m = omega (arith, low (goal.at.lay-requires c).After-over-o) in
     let wide : a.n + a.m - o ≤ max_line_width = omega (arith, c.if-limit-w.false, s.requires.h_le_max_height.2) in
-    let side : Picked d o 0 c.by_direction-q.result = (c.by_direction-q.ensures.value, c.by_direction-q.ensures.value_2) in
-    let stop : Picked d max_line_width (max_line_width - a.n) c.by_direction-stop.result = (c.by_direction-stop.ensures.value, c.by_direction-stop.ensures.value_2) in
+    let side : Picked d o 0 c.on_left-q.result = c.on_left-q.ensures in
+    let stop : Picked d max_line_width (max_line_width - a.n) c.on_left-stop.result = c.on_left-stop.ensures in
     record { h_le_max_height = (s.requires.h_le_max_height.0, face_fits d a.m o _ om face, lay_fits d a.n a.m o _ on om wide at, s.requires.h_le_max_height.4); rows_in = s.requires.rows_in; o_bound = stop-fits a.n a.m o _ _ _ on om wide d at side stop; parted = sides a.n a.m o _ _ _ on om wide d _ at face side stop; meeting_rows = all_meet a.mode a.h a.n a.m o a.s.now a.starts.now a.area.now on om wide _ _ c.over-o.ensures at face }
 
 pub returns : goal.returns
@@ -62,7 +62,7 @@ returns c =
     let a = s.args in
     let d = a.mode.direction in
     let o = c.over-o.result in
-    let at : Picked d (a.n - o) (max_line_width - (a.n + a.m - o)) c.by_direction-at.result = (c.by_direction-at.ensures.value, c.by_direction-at.ensures.value_2) in
-    let face : Picked d 0 (a.m - o) c.by_direction-p.result = (c.by_direction-p.ensures.value, c.by_direction-p.ensures.value_2) in
-    let stop : Picked d max_line_width (max_line_width - a.n) c.by_direction-stop.result = (c.by_direction-stop.ensures.value, c.by_direction-stop.ensures.value_2) in
+    let at : Picked d (a.n - o) (max_line_width - (a.n + a.m - o)) c.on_left-at.result = c.on_left-at.ensures in
+    let face : Picked d 0 (a.m - o) c.on_left-p.result = c.on_left-p.ensures in
+    let stop : Picked d max_line_width (max_line_width - a.n) c.on_left-stop.result = c.on_left-stop.ensures in
     record { overlap_value = c.over-o.ensures; holds_line = holds a.mode a.h a.n a.m c.over-o.result _ a.s.now a.starts.now a.area.now c.lay.new.area (omega (arith, low (goal.at.returns c).After-over-o)) (omega (arith, low (goal.at.returns c).After-over-o)) (omega (arith, c.if-limit-w.false, s.requires.h_le_max_height.2)) a.limit c.over-o.ensures _ _ at face stop c.lay.ensures; area_unchanged = λ l. absurd (omega (arith, c.if-limit-w.false)) }
