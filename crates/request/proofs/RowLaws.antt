@@ -22,7 +22,7 @@ use Rattle.chars.specs.declared.Entry.{Entry}
 use Rattle.chars.proofs.EntryLaws.{Stands, here, further, EachStands, none, one}
 use Rattle.font.specs.Font.{says, format, reading}
 use Rattle.font.proofs.ReadingLaws.{font_read}
-use Rattle.reader.specs.declared.Use.TheVariants.{Used}
+use Rattle.std.specs.Prelude.{Some}
 use Rattle.reader.specs.Reader.{entry_at, used}
 use Rattle.reader.proofs.UseLaws.{used-at}
 
@@ -89,24 +89,24 @@ stand_begins f s e (l ∷ ls) at p (further t) =
     let b = stand_begins f s e ls (next_start s at) (cc) t in
     record { number = suc b.number; place = b.place; rows = b.rows }
 
-each_at : (f : Format) (ls : List TextLine) (es : List Entry) (k : ℕ) (e : Entry) → EachStands f ls es → entry_at es k ≡ Used e → Stands f e ls
+each_at : (f : Format) (ls : List TextLine) (es : List Entry) (k : ℕ) (e : Entry) → EachStands f ls es → entry_at es k ≡ Some e → Stands f e ls
 unfolding entry_at
 each_at f ls [] k e none p = clash (cc)
 each_at f ls (x ∷ es) zero e (one s t) p = let q : x ≡ e = cc in subst (λ (y : Entry). Stands f y ls) q s
 each_at f ls (x ∷ es) (suc k) e (one s t) p = each_at f ls es k e t p
 
 module _ (s : List ℕ) (h : Header) (es : List Entry) (said : reading s ≡ says h es) (e : Entry) where
-  begins : (k : ℕ) → entry_at es k ≡ Used e → Begins (format h) s 0 e
+  begins : (k : ℕ) → entry_at es k ≡ Some e → Begins (format h) s 0 e
   begins k p = stand_begins (format h) s e (lines_from s 0) 0 refl (each_at (format h) (lines_from s 0) es k e (font_read s h es said).rows p)
 
   -- the place of each row is the start of a line of the font
-  pub row_line : (k : ℕ) → entry_at es k ≡ Used e → (r : ℕ) → (n : ℕ) × (after r s e.start ≡ after n s 0)
+  pub row_line : (k : ℕ) → entry_at es k ≡ Some e → (r : ℕ) → (n : ℕ) × (after r s e.start ≡ after n s 0)
   row_line k p r = let b = begins k p in (b.number + r, ap (after r s) b.place ∙ after-add b.number r s 0)
 
   -- and that line holds a row of the character's width, the bytes there
-  pub row-stands : (k : ℕ) → entry_at es k ≡ Used e → (r : ℕ) → r < h.height → RowStands (format h) s e.width (after r s e.start)
+  pub row-stands : (k : ℕ) → entry_at es k ≡ Some e → (r : ℕ) → r < h.height → RowStands (format h) s e.width (after r s e.start)
   row-stands k p r l = all_stand (format h) s e.width r (line_count (format h)) e.start (omega arith) (begins k p).rows
 
   -- the same for the character that is used for a code
-  pub used-stands : (c : Code) → used c es ≡ Used e → (r : ℕ) → r < h.height → RowStands (format h) s e.width (after r s e.start)
+  pub used-stands : (c : Code) → used c es ≡ Some e → (r : ℕ) → r < h.height → RowStands (format h) s e.width (after r s e.start)
   used-stands c p r l = let k = used-at c es e p in row-stands k.0 k.1 r l
