@@ -95,7 +95,11 @@ fn locate(pack: &[u8], code: Code) -> Result<Located, Refusal>
 pub fn find(pack: &[u8], code: Code) -> Result<Found, Refusal>
     ensures { result ≡ find_told (meaning pack.now) (bits_of code.0) }
 {
-    let Located { place, width, size: _ } = locate(pack, code)?;
+    let Located {
+        place,
+        width,
+        size: _,
+    } = locate(pack, code)?;
     Ok(Found { place, width })
 }
 
