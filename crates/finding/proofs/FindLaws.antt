@@ -10,7 +10,9 @@ use native.Mathlib.Numerals.{add-one}
 use lib.Dec.{ltb}
 use lib.IntN.{ℤ, pos}
 use lib.ListN.{length, take, get_or, length-map, get_or-map}
-use lib.Seq.{length-take-le, take_all}
+use lib.Seq.{length-take-le, take-length, take_all}
+use Rattle.std.specs.List.{fold}
+use Rattle.std.proofs.lemmas.List.Sums.{fold_more}
 use borrow.Author.Tests.{ltb-true, ltb-false}
 use Rattle.subchars.specs.declared.Code.{Code}
 use Rattle.chars.specs.declared.Entry.{Entry}
@@ -87,6 +89,16 @@ module _ (es : List Entry) (i : ℕ) (small : i < length es) where
       go false true None None = refl
       go false false None (Some d) = refl
       go false false None None = refl
+
+-- What is seen of all entries, one after another.
+pub seen_all : (c : Code) (es : List Entry) → fold (better c) Nothing es ≡ looked_up c es
+seen_all c es = sym (ap (fold (better c) Nothing) (take-length es)) ∙ go (length es) (omega arith) ∙ ap (looked_up c) (take-length es)
+  where
+    go : (i : ℕ) → i ≤ length es → fold (better c) Nothing (take i es) ≡ looked_up c (take i es)
+    go zero h = sym (looked_none c)
+    go (suc i) h =
+        ap (λ (n : ℕ). fold (better c) Nothing (take n es)) (sym (add-one i)) ∙ fold_more (better c) Nothing es i no_entry (omega arith) ∙
+        ap (λ (u : LookedUp). better c u (get_or es i no_entry)) (go i (omega arith)) ∙ looked_next es i (omega arith) c
 
 -- The same by the tests that decide on it.
 module _ (c : Code) (u : LookedUp) (e : Entry) where

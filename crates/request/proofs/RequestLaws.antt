@@ -115,7 +115,7 @@ module _ (s : List ℕ) (c : Code) (r : ℕ) where
           (record { header = h; entries = es; entry = e; said = m; is-used = u; below = ltb-true r h.height b; place = refl; width = refl })
       tall h es m e u false b = shape refl (high h es m (ltb-false r h.height b))
 
-      by : (h : Header) (es : List Entry) → reading s ≡ says h es → (u : Option Entry) → used c es ≡ u → Answer (row_of_sought s r (in_font h.height u))
+      by : (h : Header) (es : List Entry) → reading s ≡ says h es → (u : Option Entry) → used c es ≡ u → Answer (row_of_sought s r (Ok (in_font h.height u)))
       by h es m (Some e) u = tall h es m e u (ltb r h.height) refl
       by h es m None u = shape refl (missing h es m u)
 
@@ -140,7 +140,7 @@ module _ (s : List ℕ) (c : Code) (r : ℕ) where
   unfolding row_request sought
   row_if p w g =
       ap (λ (m : FontReading). row_of_sought s r (sought c m)) g.said ∙
-      ap (λ (u : Option Entry). row_of_sought s r (in_font g.header.height u)) g.is-used ∙
+      ap (λ (u : Option Entry). row_of_sought s r (Ok (in_font g.header.height u))) g.is-used ∙
       ap (λ (b : Bool). cond b (Ok (row_place (after r s g.entry.start) g.entry.width)) bad_request) (lt-ltb r g.header.height g.below) ∙
       ap (λ (j : ℕ). Ok (row_place j g.entry.width)) (sym g.place) ∙
       ap (λ (j : ℕ). Ok (row_place p j)) (sym g.width)
@@ -155,10 +155,10 @@ module _ (s : List ℕ) (c : Code) (r : ℕ) where
   -- 17, exactly then, at 0
   bad_shape_lem : BadRequest → row_request s c r ≡ bad_request
   unfolding row_request sought
-  bad_shape_lem (missing h es m u) = ap (λ (x : FontReading). row_of_sought s r (sought c x)) m ∙ ap (λ (x : Option Entry). row_of_sought s r (in_font h.height x)) u
+  bad_shape_lem (missing h es m u) = ap (λ (x : FontReading). row_of_sought s r (sought c x)) m ∙ ap (λ (x : Option Entry). row_of_sought s r (Ok (in_font h.height x))) u
   bad_shape_lem (high h es m k) = ap (λ (x : FontReading). row_of_sought s r (sought c x)) m ∙ go (used c es)
     where
-      go : (u : Option Entry) → row_of_sought s r (in_font h.height u) ≡ bad_request
+      go : (u : Option Entry) → row_of_sought s r (Ok (in_font h.height u)) ≡ bad_request
       go (Some e) = ap (λ (b : Bool). cond b (Ok (row_place (after r s e.start) e.width)) bad_request) (le-ltb r h.height k)
       go None = refl
 

@@ -13,7 +13,6 @@ use Rattle.lines.proofs.PlaceLaws.{after-add}
 use Rattle.lines.proofs.LineLaws.{some-line, lines_next, line_end_le}
 use Rattle.header.specs.declared.Header.{Header}
 use Rattle.rows.specs.declared.Format.{Format}
-use Rattle.rows.specs.declared.RowStep.TheVariants.{Width}
 use Rattle.rows.specs.Rows.{row, row_of, has_width, line_count}
 use Rattle.rows.proofs.BlockLaws.{row_prefix, row_le}
 use Rattle.rows.proofs.LineLaws.{row-width, has_width_lem, width_less}
@@ -29,14 +28,14 @@ use Rattle.reader.proofs.UseLaws.{used-at}
 -- A row of width w stands on the line that starts at a place.
 pub record RowStands (f : Format) (s : List ℕ) (w at : ℕ) : Type 0 where
   pub inside : at < length s
-  pub width : row_of f (text_at s at) ≡ Width w
+  pub width : row_of f (text_at s at) ≡ Some w
   pub marked : at + w < line_end s at
   pub ends : at + w ≤ line_end s at
   pub fits : at + w ≤ length s
   pub bytes : take w (drop at s) ≡ row (text_at s at)
 
 -- a line with a row of width w
-on_line : (f : Format) (s : List ℕ) (w at : ℕ) → at < length s → row_of f (text_at s at) ≡ Width w → RowStands f s w at
+on_line : (f : Format) (s : List ℕ) (w at : ℕ) → at < length s → row_of f (text_at s at) ≡ Some w → RowStands f s w at
 on_line f s w at h e =
     let n = line_end s at - at in
     let k = line_end_le s at (omega arith) in
@@ -63,7 +62,7 @@ all_stand f s w r (suc k) at h a =
     let y = rows_have f w (take k (lines_from s (next_start s at))) in
     by r h i (has_width_lem (row_of f (text_at s at)) w (and_left x y b.same)) (record { enough = omega (arith, b.enough); same = and_right x y b.same }) (λ j l m. all_stand f s w j k (next_start s at) l m)
   where
-    by : (j : ℕ) → j < suc k → at < length s → row_of f (text_at s at) ≡ Width w → AllRead f w k (lines_from s (next_start s at)) →
+    by : (j : ℕ) → j < suc k → at < length s → row_of f (text_at s at) ≡ Some w → AllRead f w k (lines_from s (next_start s at)) →
         ((j : ℕ) → j < k → AllRead f w k (lines_from s (next_start s at)) → RowStands f s w (after j s (next_start s at))) → RowStands f s w (after j s at)
     by zero l i e m more = on_line f s w at i e
     by (suc j) l i e m more = more j (omega arith) m
