@@ -3,7 +3,6 @@ use mathlib.Core.Path.{◌≡◌, sym, ◌∙◌}
 use Prim.Native.Nat.{◌<◌}
 use native.Mathlib.Omega.{arith}
 use lib.IntN.{pos}
-use Rattle.std.proofs.Common.{rules}
 use Rattle.index.specs.Latest.{small_codes}
 use Rattle.index.proofs.LatestLaws.{small-below, noted_here, noted_none}
 use Rattle.index.proofs.latest.note.Goals.{In-Some}
