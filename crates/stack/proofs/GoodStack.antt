@@ -2,30 +2,16 @@
 -- Assumes nothing.
 use mathlib.Core.Path.{◌≡◌}
 use mathlib.Core.Bool.{true, ◌&&◌}
-use mathlib.Core.List.{List}
-use Prim.Native.Nat.{ℕ, ◌+◌, ◌*◌, ◌≤◌}
+use Prim.Native.Nat.{ℕ, ◌*◌, ◌≤◌}
 use native.Mathlib.Omega.{arith}
-use lib.ListN.{length, get_or}
 use Rattle.ground.specs.Limits.{max_height, max_stack_height, max_line_width}
 use Rattle.ground.proofs.Tests.{and_left, and_right}
 use Rattle.subchars.specs.declared.VerticalLayout.{VerticalLayout}
 use Rattle.subchars.specs.Hardblank.{legal_hardblank}
 use Rattle.join.specs.Shape.{good_block}
 use Rattle.join.proofs.GoodShape.{block_good}
-use Rattle.blocks.proofs.Rows.{row_room}
 use Rattle.vertical.specs.VerticalPair.{good_vertical}
-use Rattle.blocks.specs.Block.{Block, exact_block}
-use Rattle.columns.specs.Lying.{Lies}
 use Rattle.stack.specs.StackCall.{good_stack}
-
--- Where a block lies whose rows lie one after another.
-pub lies : (h w : ℕ) (block : List ℕ) → 1 ≤ h → h ≤ max_stack_height → w ≤ max_line_width → length block ≡ h * w → Lies block 0 w w h
-lies h w block one few wide exact = record { some-rows = one; high = few; wide = wide; within = λ r v. omega (arith, row_room r h w v, exact) }
-
-pub exact-block : (w : ℕ) (block : List ℕ) → ◌≡◌ {A = Block} (record { width = w; cells = λ r c. get_or block (r * w + 0 + c) 0 }) (exact_block w block)
-exact-block w block i =
-    let e : (r c : ℕ) → r * w + 0 + c ≡ r * w + c = λ r c. omega arith in
-    record { width = w; cells = λ r c. get_or block (e r c i) 0 }
 
 -- The shape of either block.
 abbrev pub Exact : ℕ → ℕ → ℕ → Type 0

@@ -5,31 +5,26 @@ use mathlib.Core.Bool.{Bool, true, false, cond, ◌||◌}
 use mathlib.Core.List.{List, ◌++◌}
 use Prim.Native.Nat.{ℕ, ◌+◌, ◌-◌, ◌≤◌, ◌<◌}
 use native.Mathlib.Omega.{arith}
-use native.Mathlib.Nat.{mul-le-mul_right}
 use lib.Dec.{ltb}
-use lib.ListN.{length}
 use borrow.Author.Tests.{lt-ltb, le-ltb}
 use Rattle.std.specs.Prelude.{Result, Ok, Err}
 use Rattle.ground.specs.Area.{zeros}
-use Rattle.ground.specs.Limits.{max_line_width, max_height, min_scratch}
+use Rattle.ground.specs.Limits.{max_line_width}
 use Rattle.ground.specs.Refusals.{refusal, line_too_wide}
 use Rattle.ground.specs.declared.refusals.Refusal.{Refusal}
 use Rattle.ground.proofs.Tests.{or_left, or_right}
 use Rattle.subchars.specs.declared.Code.{Code}
-use Rattle.subchars.specs.declared.Direction.{Direction}
-use Rattle.subchars.specs.declared.Direction.TheVariants.{LeftToRight, RightToLeft}
 use Rattle.subchars.specs.declared.Mode.{Mode}
 use Rattle.subchars.specs.declared.VerticalLayout.{VerticalLayout}
 use Rattle.subchars.specs.Hardblank.{blank}
 use Rattle.lanes.proofs.Blanking.{nothing_hard}
 use Rattle.blocks.specs.Block.{Block, rows_of}
-use Rattle.blocks.proofs.Rows.{rows_cong, row_room}
+use Rattle.blocks.proofs.Rows.{rows_cong}
 use Rattle.showing.specs.Output.{shown_at, shown}
-use Rattle.showing.specs.Scratch.{line_start, scratch_line}
+use Rattle.showing.specs.Scratch.{scratch_line}
 use Rattle.columns.specs.declared.Placed.{Placed}
 use Rattle.stack.specs.declared.Stacked.{Stacked}
 use Rattle.columns.specs.Stack.{Stack, stacked}
-use Rattle.columns.specs.Lying.{Lies}
 use Rattle.columns.specs.Placing.{placed_block, with_end}
 use Rattle.stack.specs.StackCall.{StackTold, stack_tells, fit_told, area_after, PutStack}
 use Rattle.stack.proofs.Likeness.{stacked-like, put_like}
@@ -69,20 +64,6 @@ put_shown s n room x r out e f p =
       answer = ap stack_tells e ∙ p.answer;
       counts = f ∙ beside n x ∙ ap (λ (t : StackTold). cond t.refused no_counts n) p.answer;
       output = p.area ∙ ap (λ (b : List ℕ). area_after (fit_told s (lines_size s) room) b room) (shown-rows s);
-    }
-
--- A line is within its area.
-start-room : (d : Direction) (w : ℕ) → w ≤ max_line_width → line_start d w + w ≤ max_line_width
-start-room LeftToRight w u = omega arith
-start-room RightToLeft w u = omega arith
-
-pub lies_in : (d : Direction) (w h : ℕ) (area : List ℕ) → w ≤ max_line_width → 1 ≤ h → h ≤ max_height → min_scratch ≤ length area → Lies area (line_start d w) max_line_width w h
-lies_in d w h area u one few long =
-    record {
-      some-rows = one;
-      high = omega arith;
-      wide = u;
-      within = λ r v. omega (arith, row_room r h max_line_width v, mul-le-mul_right max_line_width few, start-room d w u);
     }
 
 -- What is missing in two texts is what is missing in one behind the other.

@@ -1,6 +1,6 @@
 -- Two lines of text drawn by one font and stacked: document 02, Q-1. "Site name above, device name below, closed up as the font says."
 -- Assumes nothing.
-use Rattle.std.specs.Prelude.{◌≡◌, ℕ, ◌+◌, ◌*◌, cond, ◌||◌, List, [], ltb, Option, Some, None, Result, Ok, Err}
+use Rattle.std.specs.Prelude.{◌≡◌, ℕ, ◌+◌, ◌*◌, cond, ◌||◌, List, [], ltb, Option, Some, None, Result, Err}
 use Rattle.ground.specs.Limits.{max_line_width, min_stacked_scratch}
 use Rattle.ground.specs.Refusals.{refusal, area_too_small, line_too_wide}
 use Rattle.ground.specs.declared.refusals.Refusal.{Refusal}
