@@ -37,6 +37,7 @@ pub fn row<'a>(font: &'a [u8], code: Code, row: usize) -> &'a [u8]
 }
 
 // The same row request: where in the font the row starts and how wide it is; or the refusal, the font's or else 17.
+#[tactic(auto, unfolding(crate::specs::RowCall::row_told))]
 pub fn row_refusal(font: &[u8], code: Code, row: usize) -> Result<RowPlace, Refusal>
     ensures answer { row_tells result ≡ row_told font.now code row }
 {

@@ -45,24 +45,32 @@ pub fn bytes_in<'a>(which: Which, first: &'a [u8], second: &'a [u8]) -> &'a [u8]
 fn either_of(first: LookedUp, second: LookedUp) -> LookedUpInTwo
     ensures { result ≡ either_of first second }
 {
-    match (first, second) {
-        (LookedUp::Found(entry), _) => LookedUpInTwo::Found {
+    match first {
+        LookedUp::Found(entry) => LookedUpInTwo::Found {
             font: Which::First,
             entry,
         },
-        (_, LookedUp::Found(entry)) => LookedUpInTwo::Found {
-            font: Which::Second,
-            entry,
+        LookedUp::StoodIn(entry) => match second {
+            LookedUp::Found(its) => LookedUpInTwo::Found {
+                font: Which::Second,
+                entry: its,
+            },
+            _ => LookedUpInTwo::StoodIn {
+                font: Which::First,
+                entry,
+            },
         },
-        (LookedUp::StoodIn(entry), _) => LookedUpInTwo::StoodIn {
-            font: Which::First,
-            entry,
+        LookedUp::Nothing => match second {
+            LookedUp::Found(its) => LookedUpInTwo::Found {
+                font: Which::Second,
+                entry: its,
+            },
+            LookedUp::StoodIn(its) => LookedUpInTwo::StoodIn {
+                font: Which::Second,
+                entry: its,
+            },
+            LookedUp::Nothing => LookedUpInTwo::Nothing,
         },
-        (_, LookedUp::StoodIn(entry)) => LookedUpInTwo::StoodIn {
-            font: Which::Second,
-            entry,
-        },
-        (LookedUp::Nothing, LookedUp::Nothing) => LookedUpInTwo::Nothing,
     }
 }
 

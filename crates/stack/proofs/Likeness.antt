@@ -7,7 +7,6 @@ use Prim.Native.Nat.{ℕ, ◌+◌, ◌-◌, ◌*◌, max}
 use native.Mathlib.Omega.{arith}
 use native.Mathlib.Decide.{dec_lt}
 use lib.Dec.{ltb}
-use lib.ListN.{get_or}
 use borrow.Author.Tests.{le-ltb}
 use Rattle.ground.specs.Limits.{max_stack_height}
 use Rattle.ground.specs.Refusals.{area_too_small, stack_too_high}
@@ -17,7 +16,7 @@ use Rattle.subchars.specs.declared.VerticalLayout.TheVariants.{FullHeight, Fitti
 use Rattle.lanes.specs.Blocks.{Cells, Agree}
 use Rattle.lanes.specs.Overlap.{furthest, fitting, smushing}
 use Rattle.lanes.proofs.Agreeing.{furthest_cong, fitting_cong, smushing_cong, joined_cong}
-use Rattle.blocks.specs.Block.{Block, exact_block, rows_of}
+use Rattle.blocks.specs.Block.{Block, rows_of}
 use Rattle.blocks.specs.Writing.{Like}
 use Rattle.blocks.proofs.Rows.{rows_cong}
 use Rattle.vertical.specs.VerticalPair.{VerticalLine, set_has, merges, merged_byte, barred, other_rules}
@@ -25,7 +24,7 @@ use Rattle.std.specs.Prelude.{Result}
 use Rattle.ground.specs.declared.refusals.Refusal.{Refusal}
 use Rattle.stack.specs.declared.Stacked.{Stacked}
 use Rattle.columns.specs.Stack.{upright, supersmushing, columns_overlap, wider, stack_overlap, stacked_at, Stack, stacked}
-use Rattle.columns.specs.Placing.{placed_block, with_end}
+use Rattle.columns.specs.Placing.{with_end}
 use Rattle.stack.specs.StackCall.{StackTold, stack_tells, stacking, no_stack_if, fit_told, area_after, PutStack}
 use Rattle.columns.proofs.Columns.{upright-like}
 use Rattle.columns.proofs.Demand.{overlap_smaller, ruled}

@@ -61,19 +61,21 @@ fn are_alike(a: Header, b: Header) -> bool
 fn both_of(a: Result<FontRead, Refusal>, b: Result<FontRead, Refusal>) -> BothRead
     ensures { result ≡ both_of a b }
 {
-    match (a, b) {
-        (Err(r), _) => BothRead::Refused(r),
-        (_, Err(r)) => BothRead::Refused(r),
-        (Ok(first), Ok(second)) => {
-            if are_alike(first.header, second.header) {
-                return BothRead::Read {
-                    header: first.header,
-                    first: first.count,
-                    second: second.count,
-                };
+    match a {
+        Err(r) => BothRead::Refused(r),
+        Ok(first) => match b {
+            Err(r) => BothRead::Refused(r),
+            Ok(second) => {
+                if are_alike(first.header, second.header) {
+                    return BothRead::Read {
+                        header: first.header,
+                        first: first.count,
+                        second: second.count,
+                    };
+                }
+                BothRead::Refused(Refusal::of(Reason::FontsDiffer))
             }
-            BothRead::Refused(Refusal::of(Reason::FontsDiffer))
-        }
+        },
     }
 }
 

@@ -2,7 +2,6 @@ use mathlib.Core.Bool.{Bool}
 use mathlib.Core.Path.{◌≡◌, ◌∙◌, sym, ap₂}
 use Prim.Native.Nat.{ℕ, ◌+◌, ◌-◌}
 use native.Mathlib.Omega.{arith}
-use Rattle.ground.specs.Count.{every}
 use Rattle.ground.proofs.Counting.{every-none, every_next, every-stop}
 use Rattle.lanes.specs.Overlap.{lane_facing}
 use Rattle.vertical.specs.VerticalPair.{passes_by}

@@ -4,7 +4,7 @@ use native.Mathlib.Omega.{arith}
 use Rattle.lanes.specs.Blocks.{Cells}
 use Rattle.vertical.specs.VerticalPair.{passes_by}
 use Rattle.columns.specs.Placing.{placed_columns}
-use Rattle.columns.proofs.Facing.{far_none, far_next, far_is}
+use Rattle.columns.proofs.Facing.{far_none, far_is}
 use Rattle.columns.proofs.overlaps.furthest_rows.Goals.{Start}
 use Rattle.columns.proofs.overlaps.furthest_rows.Goals as goal
 

@@ -1,6 +1,5 @@
 -- `stack::stacking::put_stack` meets its contract.
 use mathlib.Core.Path.{◌∙◌}
-use Prim.Native.Nat.{ℕ, ◌≤◌, min}
 use native.Mathlib.Omega.{arith}
 use lib.ListN.{length}
 use Rattle.columns.specs.Placing.{placed_block}

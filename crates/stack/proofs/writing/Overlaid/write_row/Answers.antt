@@ -1,4 +1,3 @@
-use Prim.Native.Nat.{ℕ, ◌+◌}
 use native.Mathlib.Omega.{arith}
 use lib.ListN.{take}
 use Rattle.ground.proofs.Areas.{put_none, put_next}
