@@ -16,7 +16,7 @@ use Rattle.font.specs.Font.{format}
 use Rattle.font.proofs.ReadingLaws.{font_read}
 use Rattle.index.specs.Index.{CharacterRoom, Lists}
 use Rattle.index.specs.Latest.{Latest}
-use Rattle.std.specs.Prelude.{Option, Some, None}
+use Rattle.std.specs.Prelude.{Option, Some, None, is_some}
 use Rattle.reader.specs.Reader.{entry_at, used, looked_up}
 use Rattle.reader.proofs.UseLaws.{used-at}
 use Rattle.reader.proofs.ThreeLaws.{own_found, other_stood_in, unused_nothing, used-zero}
@@ -114,6 +114,10 @@ module _ (source : Source) (s : List ℕ) (height count : ℕ) (codes : List ℤ
 
   pub given_leaves_out : Looked (code (pos 0)) None → StandsIn false source
   given_leaves_out looked cs = rw g.is (without_code_0 s g.held.characters (sym (its (code (pos 0)) None looked ∙ used-zero g.held.characters)) cs)
+
+  pub given_stands : (x : Option Entry) → Looked (code (pos 0)) x → StandsIn (is_some x) source
+  given_stands (Some x) looked = given_stands_in x looked
+  given_stands None looked = given_leaves_out looked
 
 -- Every source that is given has 1 to 32 rows.
 high-by : (source : Source) (s t : List ℕ) (height : ℕ) (origin : Origin) (codes : List ℤ) (starts widths places : List ℕ) → GivesBy source s t height origin codes starts widths places → (0 < height) × (height ≤ max_height)

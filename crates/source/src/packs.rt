@@ -34,7 +34,13 @@ pub(crate) fn stands_in(pack: &[u8], height: usize, starts: &[usize], widths: &[
 }
 
 // The letter at a place as a character; where its rows start is written into a lent list.
-fn show_letter(head: Head, pack: &[u8], place: Option<Place>, own: bool, found: &mut [usize]) -> Chosen
+fn show_letter(
+    head: Head,
+    pack: &[u8],
+    place: Option<Place>,
+    own: bool,
+    found: &mut [usize],
+) -> Chosen
     requires place_in { PlaceIn head pack.now place }
     requires max_height_in_bounds { max_height ≤ length found.old }
     ensures { ChosenAs pack.now found.new head.height result (letter_choice head pack.now own place) }

@@ -2,7 +2,7 @@
 use mathlib.Core.Path.{◌≡◌, sym, ap, ◌∙◌}
 use mathlib.Core.List.{List}
 use Prim.Native.Nat.{ℕ}
-use Rattle.std.specs.Prelude.{Option, Some, None, Result, Ok, Err, ok_or}
+use Rattle.std.specs.Prelude.{Option, Some, None, Result, Err, ok_or}
 use Rattle.std.proofs.lemmas.Result.{err_from_is_err_and}
 use Rattle.ground.specs.Refusals.{refusal, no_signature}
 use Rattle.ground.specs.declared.refusals.Refusal.{Refusal}
@@ -10,9 +10,8 @@ use Rattle.ground.proofs.Tests.{clash}
 use Rattle.lines.specs.declared.Line.{Line}
 use Rattle.lines.specs.Lines.{next_line}
 use Rattle.lines.proofs.LineLaws.{LineFound, line-found, line_missed, line_order, line-within}
-use Rattle.header.specs.declared.Header.{Header}
 use Rattle.font.specs.declared.Opening.{Opening}
-use Rattle.font.specs.Steps.{open_by, first_line}
+use Rattle.font.specs.Steps.{first_line}
 use Rattle.font.proofs.OpenLaws.{open_line, open_empty}
 use Rattle.font.proofs.first_line.Goals.{In_ok-line}
 use Rattle.font.proofs.first_line.Goals as goal

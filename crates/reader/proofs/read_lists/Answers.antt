@@ -1,5 +1,4 @@
 -- `reader::read_lists` meets its contract: the font is opened, and its characters are read from there on.
-use mathlib.Core.Path.{sym, ◌∙◌}
 use Rattle.std.proofs.lemmas.Result.{err_from_is_err_and}
 use Rattle.reader.proofs.ReadLaws.{opened, closed}
 use Rattle.reader.proofs.read_lists.Goals as goal

@@ -6,6 +6,7 @@ use Rattle.source.specs.declared.Chosen.TheVariants.{Character}
 use Rattle.source.specs.Source.{Choice, character_of}
 use Rattle.source.specs.Steps.{ChosenAs, as_own}
 use Rattle.source.proofs.CharacterLaws.{shown_as, given-stands, given_choice, given_nothing}
+use Rattle.chars.proofs.CodeLaws.{int_same}
 use Rattle.source.proofs.choose_entry.Goals as goal
 
 pub find_rows-requires : goal.find_rows-requires
@@ -21,7 +22,7 @@ returns-in-Some c =
     let rows = c.find_rows in
     λ source g.
     subst (λ (x : Choice). ChosenAs a.font.now rows.new.rows a.height (Character c.in-Some.entry.width own.result) x)
-    (ap (λ (b : Bool). as_own b (character_of a.font.now c.in-Some.entry)) own.ensures ∙ given_choice source _ _ _ _ _ _ _ g a.code _ (λ es n l. sym c.in-Some.is ∙ c.find_known.ensures es n l))
+    (ap (λ (b : Bool). as_own b (character_of a.font.now c.in-Some.entry)) (own.ensures ∙ int_same c.in-Some.entry.code.0 a.code.0) ∙ given_choice source _ _ _ _ _ _ _ g a.code _ (λ es n l. sym c.in-Some.is ∙ c.find_known.ensures es n l))
     (shown_as a.font.now c.in-Some.entry a.height (given-stands source _ _ _ _ _ _ _ g a.code _ (λ es n l. sym c.in-Some.is ∙ c.find_known.ensures es n l)) rows.new.rows rows.ensures own.result)
 
 pub returns-in-None : goal.returns-in-None
