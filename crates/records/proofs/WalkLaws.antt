@@ -17,7 +17,7 @@ use Rattle.records.specs.declared.Record.{Record}
 use Rattle.records.specs.declared.Place.{Place}
 use Rattle.records.specs.declared.Spot.{Spot}
 use Rattle.records.specs.declared.Spot.TheVariants as spot
-use Rattle.core.specs.Result.{result_ok}
+use Rattle.std.specs.Result.{result_ok}
 use Rattle.std.specs.Prelude.{Some, None, is_some, Result, Ok, Err}
 use Rattle.records.specs.Versions.{record_head_length}
 use Rattle.records.specs.Records.{is_live, code_in, width_in, RecordList, list_ends, with_record, record_list, is_live_of, has_live, none_twice, live_count, is_free_of}

@@ -30,7 +30,7 @@ use Rattle.lanes.specs.Joined.{joined_cells}
 use Rattle.blocks.specs.Block.{exact_block, rows_of}
 use Rattle.overlap.specs.Join.{overlap, joined_at, besides}
 use Rattle.join.specs.Shape.{good_block, good_shape}
-use Rattle.join.specs.JoinCall.{joining, join_tells, told_of, join_told, join_area}
+use Rattle.join.specs.JoinCall.{joining as joined_with, join_tells, told_of, join_told, join_area}
 
 abbrev Rows : Type 0
 Rows = List String
@@ -74,7 +74,7 @@ Holds (full_layout v y) = (old : ℤ) → layout_of old (Some v) ≡ y
 Holds (joining y line character o result) =
     let h = length line in
     let room = length (text result) in
-    (join_told (mode y) h (width line) (text line) (width character) (text character) room ≡ join_tells (joining o (width result)))
+    (join_told (mode y) h (width line) (text line) (width character) (text character) room ≡ join_tells (joined_with o (width result)))
     × (join_area (mode y) h (width line) (text line) (width character) (text character) room ≡ text result)
 Holds (is_free line character o) =
     let a = exact_block (width line) (text line) in

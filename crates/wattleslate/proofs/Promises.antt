@@ -8,7 +8,6 @@ use mathlib.Core.Bool.{Bool, true, false, cond, ◌&&◌}
 use mathlib.Core.List.{List, [], ◌∷◌, ◌++◌, map}
 use mathlib.Core.Logic.Iff
 use mathlib.Core.Logic.{◌⊎◌, inl, inr, ◌↔◌}
-use mathlib.Core.Option.{some}
 use Rattle.std.specs.Prelude.{Option, Some, None, Result, Ok, Err}
 use Prim.Native.Nat.{ℕ, suc, ◌+◌, ◌-◌, ◌*◌, ◌≤◌, ◌<◌, min, max}
 use lib.IntN.{ℤ, pos, nat_abs, ◌-ℤ◌}
@@ -530,7 +529,7 @@ last_of_repeated_codes = looking.at_last
 -- Otherwise the character with code 0 stands in; if there is none, nothing is drawn."
 code_0_stands_in : (c : Code) (codes : List ℤ) → last_at c.0 codes ≡ None → look_up c codes ≡ last_at (pos 0) codes
 unfolding look_up
-code_0_stands_in c codes e = ap (λ (f : Found). or_stand_in f (last_at (pos 0) codes)) e
+code_0_stands_in c codes e = ap (λ (f : Option ℕ). or_stand_in f (last_at (pos 0) codes)) e
 
 -- "Within a stage the first command that fits acts, once."
 first_command_acts : (before : List Command) (c : Command) (bs : List Command) (z : Code) → NoneFits z before → fits c z ≡ true → through_stage (before ++ (c ∷ bs)) z ≡ new_code c z
@@ -540,11 +539,11 @@ no_command_fits : (cs : List Command) (z : Code) → NoneFits z cs → through_s
 no_command_fits = mapping.passes_through
 
 -- "No pair is joined by two rules."
-no_pair_by_two_rules : (h l r : ℕ) (p q : Rule) (x z : ℕ) → by_rule p h l r ≡ some x → by_rule q h l r ≡ some z → p ≡ q
+no_pair_by_two_rules : (h l r : ℕ) (p q : Rule) (x z : ℕ) → by_rule p h l r ≡ Some x → by_rule q h l r ≡ Some z → p ≡ q
 no_pair_by_two_rules = rules.one_rule
 
 -- "Its rule in the set": a rule of the set that joins a pair without a blank gives its byte.
-rule_of_the_set_joins : (set h l r : ℕ) (rule : Rule) (x : ℕ) → in_set set rule ≡ true → by_rule rule h l r ≡ some x → controlled set h l r ≡ ByRule rule (record { 0 = x })
+rule_of_the_set_joins : (set h l r : ℕ) (rule : Rule) (x : ℕ) → in_set set rule ≡ true → by_rule rule h l r ≡ Some x → controlled set h l r ≡ ByRule rule (record { 0 = x })
 rule_of_the_set_joins = sets.controlled-by
 
 -- "Universal joins every pair."
@@ -706,7 +705,7 @@ module _ (full : ℕ) where
   full_layout_full_height e f = rw (e, f)
 
 -- "The five rules of source document 000": no pair is joined by two of the four but 4096.
-no_pair_by_two_vertical_rules : (u l : ℕ) (p q : VerticalRule) (x y : ℕ) → (p ≡ VerticalLine → ⊥) → (q ≡ VerticalLine → ⊥) → rule_merges p u l ≡ some x → rule_merges q u l ≡ some y → p ≡ q
+no_pair_by_two_vertical_rules : (u l : ℕ) (p q : VerticalRule) (x y : ℕ) → (p ≡ VerticalLine → ⊥) → (q ≡ VerticalLine → ⊥) → rule_merges p u l ≡ Some x → rule_merges q u l ≡ Some y → p ≡ q
 no_pair_by_two_vertical_rules = vertical-rules.no_two_rules
 
 -- "For universal the lower block is the later one": of two visible sub-characters the lower one stands.

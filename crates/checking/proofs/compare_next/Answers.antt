@@ -5,7 +5,7 @@ use Prim.Native.Nat.{ℕ}
 use native.Mathlib.Omega.{arith}
 use lib.ListN.{length, get_or}
 use Rattle.std.specs.Prelude.{Option, Some, None}
-use Rattle.core.specs.Option.{option_or}
+use Rattle.std.specs.Option.{option_or}
 use Rattle.checking.specs.Steps.{first_wrong_of}
 use Rattle.checking.proofs.TallyLaws.{next_right, next_wrong, list_ended}
 use Rattle.checking.proofs.compare_next.Goals.{else-k-overlaps-via-then-k-overlaps+else-overlaps-k, else-k-overlaps-via-else-k-overlaps}

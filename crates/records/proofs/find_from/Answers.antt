@@ -1,7 +1,7 @@
 -- `records::find_from` meets its contract.
 use mathlib.Core.Path.{◌∙◌, ap}
 use borrow.Author.Rules.{rules}
-use Rattle.core.specs.Result.{result_ok}
+use Rattle.std.specs.Result.{result_ok}
 use Rattle.records.proofs.WalkLaws.{records_at, has_code, first_place}
 use Rattle.records.proofs.find_from.Goals as goal
 
