@@ -66,10 +66,7 @@ pub fn load(files: &impl Files, name: &[u8], buffer: &mut [u8]) -> usize
 
 // The first 64 bytes of a request.
 pub fn shortened(line: &[u8]) -> &[u8] {
-    if 64 < line.len() {
-        return &line[..64];
-    }
-    line
+    &line[..line.len().min(64)]
 }
 
 // The first word of a request.
@@ -77,10 +74,8 @@ pub fn word_of(line: &[u8]) -> &[u8] {
     let w = words::first_word(line);
     let a = w.start;
     let e = w.end;
-    if a <= e {
-        if e <= line.len() {
-            return &line[a..e];
-        }
+    if a <= e && e <= line.len() {
+        return &line[a..e];
     }
     &line[..0]
 }

@@ -70,7 +70,7 @@ find_fits s code = go (meaning s) refl
   where
     at_place : (f : Head) (rs : List (List ℕ)) → meaning s ≡ says f rs → (x : Option Place) → x ≡ place_in f code (head_length f.version) rs → FindFits (found_at (located_at f x))
     at_place f rs m (Some x) q =
-        let i = place_in_lem s f rs m code x.at x.width q in
+        let i = place_in_lem s f rs m code x q in
         let t = mul-le-mul_right {m = 1} {n = f.height} x.width (some s f rs m) in
         record { place_in_32 = omega (arith, i, short s f rs m); width_in_16 = omega (arith, i, t, short s f rs m) }
     at_place f rs m None q = known code_absent
