@@ -47,12 +47,5 @@ pub fn map_code(control: &[u8], code: Code) -> Result<Code, Refusal>
     let mut lasts = [0i32; limits::MAX_COMMANDS];
     let mut news = [0i32; limits::MAX_COMMANDS];
     let read = flc::read_lists(control, &mut stages, &mut firsts, &mut lasts, &mut news)?;
-    Ok(mapping::map_by(
-        &stages,
-        &firsts,
-        &lasts,
-        &news,
-        read.commands,
-        code,
-    ))
+    Ok(mapping::map_by(&stages, &firsts, &lasts, &news, read.commands, code))
 }

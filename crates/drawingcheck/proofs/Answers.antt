@@ -159,22 +159,22 @@ module _ (size : ℕ) (s control text : List ℕ) where
     -- "Accept exactly if each overlap is the one of demand 3 and the bytes are the drawing."
     pub accepted : answer ≡ Ok Accepted ↔ ((x : CheckRead) × ((line_by x).width ≤ max_line_width) × (overlaps ≡ right_by x) × (figure ≡ drawing_by x))
     accepted = (
-      λ e. let j = judged_as Accepted (λ r p. clash (cc)) e in let w = (accepted_exactly (right_by j.files) (drawing_by j.files) overlaps figure).0 j.is in (j.files, j.narrow, w.0, w.1),
-      λ w. judged_gives Accepted (record { files = w.0; narrow = w.1; is = (accepted_exactly (right_by w.0) (drawing_by w.0) overlaps figure).1 (w.2, w.3) }),
+      λ e. let j = judged_as (Ok Accepted) (λ r p. clash (cc)) e in let w = (accepted_exactly (right_by j.files) (drawing_by j.files) overlaps figure).0 j.is in (j.files, j.narrow, w.0, w.1),
+      λ w. judged_gives (Ok Accepted) (record { files = w.0; narrow = w.1; is = (accepted_exactly (right_by w.0) (drawing_by w.0) overlaps figure).1 (w.2, w.3) }),
     )
 
     -- "The check names the first wrong overlap,
     pub wrong_overlap : (k : ℕ) → answer ≡ Ok (WrongOverlap k) ↔ ((x : CheckRead) × ((line_by x).width ≤ max_line_width) × FirstWrong k (right_by x) overlaps)
     wrong_overlap k = (
-      λ e. let j = judged_as (WrongOverlap k) (λ r p. clash (cc)) e in (j.files, j.narrow, (overlap_exactly (right_by j.files) (drawing_by j.files) overlaps figure k).0 j.is),
-      λ w. judged_gives (WrongOverlap k) (record { files = w.0; narrow = w.1; is = (overlap_exactly (right_by w.0) (drawing_by w.0) overlaps figure k).1 w.2 }),
+      λ e. let j = judged_as (Ok (WrongOverlap k)) (λ r p. clash (cc)) e in (j.files, j.narrow, (overlap_exactly (right_by j.files) (drawing_by j.files) overlaps figure k).0 j.is),
+      λ w. judged_gives (Ok (WrongOverlap k)) (record { files = w.0; narrow = w.1; is = (overlap_exactly (right_by w.0) (drawing_by w.0) overlaps figure k).1 w.2 }),
     )
 
     -- else the first wrong byte."
     pub wrong_byte : (p : ℕ) → answer ≡ Ok (WrongByte p) ↔ ((x : CheckRead) × ((line_by x).width ≤ max_line_width) × (overlaps ≡ right_by x) × PartsFirst p (drawing_by x) figure)
     wrong_byte p = (
-      λ e. let j = judged_as (WrongByte p) (λ r q. clash (cc)) e in let w = (byte_exactly (right_by j.files) (drawing_by j.files) overlaps figure p).0 j.is in (j.files, j.narrow, w.0, w.1),
-      λ w. judged_gives (WrongByte p) (record { files = w.0; narrow = w.1; is = (byte_exactly (right_by w.0) (drawing_by w.0) overlaps figure p).1 (w.2, w.3) }),
+      λ e. let j = judged_as (Ok (WrongByte p)) (λ r q. clash (cc)) e in let w = (byte_exactly (right_by j.files) (drawing_by j.files) overlaps figure p).0 j.is in (j.files, j.narrow, w.0, w.1),
+      λ w. judged_gives (Ok (WrongByte p)) (record { files = w.0; narrow = w.1; is = (byte_exactly (right_by w.0) (drawing_by w.0) overlaps figure p).1 (w.2, w.3) }),
     )
 
     -- Each refusal by itself: what it is given for.

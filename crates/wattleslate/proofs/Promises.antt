@@ -83,7 +83,7 @@ use Rattle.chars.specs.declared.Entry.{Entry}
 use Rattle.chars.specs.Codes.{code, required_codes, required_count, no_code, tag_of}
 use Rattle.chars.specs.Chars.{blank_lines}
 use Rattle.rows.specs.declared.Format.{Format}
-use Rattle.rows.specs.Rows.{trimmed, unmarked, row, legal_byte, row_of, read, character_rows}
+use Rattle.rows.specs.Rows.{trimmed, unmarked, row, legal_byte, row_of, character_rows}
 use Rattle.rows.proofs.TrailingBlanks as row-lines
 use Rattle.chars.proofs.OrderLaws.{InOrder, EachTagged}
 use Rattle.index.specs.LookUp.{last_at, or_stand_in, look_up}
@@ -1153,7 +1153,7 @@ module _ (f : Format) where
 
   -- and so do the lines of a character, in two fonts of any size: where the one is read with a width, the other is.
   same-characters : (size other w : ℕ) (ls ms : List TextLine) → map (λ (l : TextLine). trimmed l.text) ls ≡ map (λ (l : TextLine). trimmed l.text) ms →
-      character_rows f size ls ≡ read w → character_rows f other ms ≡ read w
+      character_rows f size ls ≡ Ok w → character_rows f other ms ≡ Ok w
   same-characters = row-lines.characters-alike f
 
   -- "A line of only blanks and tabs is now refused":
