@@ -1,3 +1,4 @@
+-- `columns::overlaps::column_passes` meets its contract: the pairs of a column are tested one after another.
 use mathlib.Core.Path.{◌≡◌, ◌∙◌, sym, ap₂}
 use native.Mathlib.Omega.{arith}
 use Rattle.ground.proofs.Counting.{every-none, every_next, every-stop}

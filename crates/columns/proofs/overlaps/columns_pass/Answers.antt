@@ -1,3 +1,4 @@
+-- `columns::overlaps::columns_pass` meets its contract: the columns are tested one after another.
 use mathlib.Core.Path.{◌≡◌, ◌∙◌, sym}
 use Prim.Native.Nat.{min}
 use native.Mathlib.Omega.{arith}

@@ -1,3 +1,4 @@
+-- `columns::overlaps::furthest_rows` meets its contract: the overlaps are tested one after another.
 use mathlib.Core.Path.{◌∙◌, sym}
 use Prim.Native.Nat.{min}
 use native.Mathlib.Omega.{arith}
