@@ -15,8 +15,5 @@ use subchars::Code;
 pub fn find_in(index: &[Entry], count: usize, code: Code) -> LookedUp
     ensures answer { entry_tells result ≡ found_told index.now count code }
 {
-    index
-        .iter()
-        .take(count)
-        .fold(LookedUp::Nothing, |seen, e| seen::better(seen, *e, code))
+    seen::look_through(&index[..count.min(index.len())], code)
 }

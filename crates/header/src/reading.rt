@@ -3,7 +3,7 @@ ghost use Rattle.std.specs.Prelude.{◌≡◌, nat_abs};
 ghost use Rattle.lines.specs.Words.{first_word};
 ghost use Rattle.lines.specs.Numbers.{header_number};
 ghost use Rattle.header.specs.Header.{parameter_numbers, parameters, within, allowed, legal_parameters, given, layout_of, header, header_of};
-ghost use Rattle.header.specs.Steps.{behind};
+ghost use Rattle.header.specs.Steps.{behind, legal_required};
 
 use crate::{Header, Parameters};
 use ground::limits;
@@ -65,6 +65,7 @@ fn parameters_of(t: &[u8]) -> Option<Parameters>
     })
 }
 
+#[tactic(auto, unfolding(crate::specs::Header::within))]
 fn is_within(z: i32, low: i32, high: i32) -> bool
     ensures { result ≡ within low high z }
 {
@@ -72,23 +73,29 @@ fn is_within(z: i32, low: i32, high: i32) -> bool
 }
 
 // Whether a parameter that may be missing is between 0 and its upper bound if it is there.
+#[tactic(auto, unfolding(crate::specs::Header::allowed))]
 fn is_allowed(p: Option<i32>, high: i32) -> bool
     ensures { result ≡ allowed high p }
 {
-    match p {
-        Some(z) => is_within(z, 0, high),
-        None => true,
-    }
+    p.is_none_or(|z| is_within(z, 0, high))
 }
 
-fn is_legal(p: Parameters) -> bool
-    ensures { result ≡ legal_parameters p }
+// Whether the five parameters that are required are within their ranges.
+fn is_legal_without_options(p: Parameters) -> bool
+    ensures { result ≡ legal_required p }
 {
     is_within(p.height, 1, MAX_HEIGHT)
         && is_within(p.baseline, 1, p.height)
         && is_within(p.max_length, 1, MAX_LENGTH)
         && is_within(p.old_layout, MIN_OLD_LAYOUT, MAX_OLD_LAYOUT)
         && is_within(p.comment_lines, 0, MAX_COMMENT_LINES)
+}
+
+#[tactic(auto, unfolding(crate::specs::Header::legal_parameters))]
+fn is_legal(p: Parameters) -> bool
+    ensures { result ≡ legal_parameters p }
+{
+    is_legal_without_options(p)
         && is_allowed(p.print_direction, MAX_DIRECTION)
         && is_allowed(p.full_layout, MAX_FULL_LAYOUT)
         && is_allowed(p.codetag_count, MAX_CODETAG_COUNT)
@@ -104,23 +111,18 @@ fn size_of(z: i32) -> usize
 fn given_of(p: Option<i32>) -> Option<usize>
     ensures { result ≡ given p }
 {
-    match p {
-        Some(z) => Some(size_of(z)),
-        None => None,
-    }
+    p.map(size_of)
 }
 
 // The layout that Old_Layout or, where it stands, Full_Layout gives.
 fn layout_of(old: i32, full: Option<usize>) -> Layout
     ensures { result ≡ layout_of old full }
 {
-    match full {
-        Some(f) => Layout::from_full(f),
-        None => Layout::from_old(old),
-    }
+    full.map_or(Layout::from_old(old), Layout::from_full)
 }
 
 // The header of legal parameters.
+#[tactic(auto, unfolding(crate::specs::Header::header))]
 fn legal_header(hardblank: SubCharacter, p: Parameters) -> Header
     ensures { result ≡ header hardblank p }
 {
@@ -140,6 +142,7 @@ fn legal_header(hardblank: SubCharacter, p: Parameters) -> Header
 }
 
 // The header that the numbers at the start of a text make.
+#[tactic(auto, unfolding(crate::specs::Header::header_of))]
 pub fn header_of(hardblank: SubCharacter, t: &[u8]) -> Result<Header, Refusal>
     ensures { result ≡ header_of hardblank (parameter_numbers t.now) }
 {

@@ -12,6 +12,7 @@ pub const SMALL_CODES: usize = 256;
 const FIRST_BEYOND: i32 = SMALL_CODES as i32;
 
 // A small code as a place in the list; none for another code.
+#[tactic(auto, unfolding(crate::specs::Latest::small_of))]
 fn as_small(code: Code) -> Option<usize>
     ensures { result ≡ small_of code.0 }
 {
@@ -55,6 +56,7 @@ fn find_known(codes: &[i32], latest: &[usize], code: Code) -> Option<usize>
 }
 
 // Look-up by the list.
+#[tactic(auto, unfolding(crate::specs::LookUp::look_up))]
 pub fn look_up(codes: &[i32], latest: &[usize], code: Code) -> Option<usize>
     requires { Latest codes.now latest.now }
     ensures { result ≡ look_up code codes.now }

@@ -46,6 +46,7 @@ fn find(codes: &[i32], code: Code) -> Option<usize>
 }
 
 // The place of the character that is used for a code: its own, or else that of code 0.
+#[tactic(auto, unfolding(crate::specs::LookUp::look_up))]
 pub fn look_up(codes: &[i32], code: Code) -> Option<usize>
     ensures { result ≡ look_up code codes.now }
 {

@@ -57,7 +57,13 @@ pub fn hold_letters(head: Head, pack: &[u8], starts: &mut [usize], widths: &mut 
 }
 
 // Where the record of a code's letter starts, and its width.
-pub fn find_letter(head: Head, pack: &[u8], starts: &[usize], widths: &[usize], code: Code) -> Option<Place>
+pub fn find_letter(
+    head: Head,
+    pack: &[u8],
+    starts: &[usize],
+    widths: &[usize],
+    code: Code,
+) -> Option<Place>
     requires { LettersHeld head pack.now starts.now widths.now }
     ensures { (records : List (List ℕ)) → meaning pack.now ≡ says head records → result ≡ place_in head (bits_of code.0) (head_length head.version) records }
 {

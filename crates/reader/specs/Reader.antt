@@ -12,9 +12,12 @@ use Rattle.reader.specs.declared.FontRead.{FontRead}
 use Rattle.reader.specs.declared.LookedUp.{LookedUp}
 use Rattle.reader.specs.declared.LookedUp.TheVariants as three
 
+abbrev pub read_with : Header → ℕ → FontRead
+read_with h n = record { header = h; count = n }
+
 -- "And the answer gives how many."
 abbrev pub font_answer : FontReading → Result FontRead Refusal
-font_answer (says h es) = Ok (record { header = h; count = length es })
+font_answer (says h es) = Ok (read_with h (length es))
 font_answer (refuses r) = Err r
 
 -- The characters of a font that is read.

@@ -74,7 +74,13 @@ pub fn read_lists(
 }
 
 // What the lists hold at the place that look-up found.
-fn entry_at(codes: &[i32], starts: &[usize], widths: &[usize], count: usize, found: Option<usize>) -> Option<Entry>
+fn entry_at(
+    codes: &[i32],
+    starts: &[usize],
+    widths: &[usize],
+    count: usize,
+    found: Option<usize>,
+) -> Option<Entry>
     requires character_room { CharacterRoom count codes.now starts.now widths.now }
     requires found_below { FoundBelow count found }
     ensures { (es : List Entry) → count ≡ length es → Lists es codes.now starts.now widths.now → result ≡ at_found found es }

@@ -44,12 +44,15 @@ pub fn seek(font: &[u8], code: Code) -> Result<Option<Sought>, Refusal>
 pub fn request(font: &[u8], code: Code, row: usize) -> Result<RowPlace, Refusal>
     ensures { result ≡ row_request font.now code row }
 {
-    match seek(font, code)? {
-        Some(Sought { height, entry }) if row < height => {
-            let first = Cursor { at: entry.start };
+    let found = seek(font, code)?;
+    match found {
+        Some(sought) if row < sought.height => {
+            let first = Cursor {
+                at: sought.entry.start,
+            };
             Ok(RowPlace {
                 place: first.skip(font, row).next.at,
-                width: entry.width,
+                width: sought.entry.width,
             })
         }
         _ => Err(Refusal::of(Reason::BadShape)),

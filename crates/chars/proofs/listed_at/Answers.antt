@@ -1,5 +1,5 @@
 -- `chars::listed_at` meets its contract.
-use mathlib.Core.Path.{sym, ap}
+use mathlib.Core.Path.{ap}
 use Rattle.std.specs.Prelude.{Result}
 use Rattle.std.proofs.lemmas.Result.{err_from_is_err_and}
 use Rattle.ground.specs.declared.refusals.Refusal.{Refusal}

@@ -1,10 +1,5 @@
 -- `chars::tag_at` meets its contract: the tag of the line that the cursor finds.
-use mathlib.Core.Path.{sym, ap, ◌∙◌}
-use Rattle.std.specs.Prelude.{Option}
-use Rattle.subchars.specs.declared.Code.{Code}
 use Rattle.lines.proofs.LineLaws.{LineFound, line-found, line_missed, line_order, line-within}
-use Rattle.chars.specs.declared.TagLine.{TagLine}
-use Rattle.chars.specs.Steps.{tag_then}
 use Rattle.chars.proofs.ListingLaws.{tag_line, tag_missed}
 use Rattle.chars.proofs.tag_at.Goals.{In_ok-line}
 use Rattle.chars.proofs.tag_at.Goals as goal

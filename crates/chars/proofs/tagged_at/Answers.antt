@@ -1,5 +1,5 @@
 -- `chars::tagged_at` meets its contract.
-use mathlib.Core.Path.{sym, ◌∙◌}
+use mathlib.Core.Path.{sym}
 use Rattle.std.proofs.Common.{rules}
 use Rattle.std.proofs.lemmas.Result.{err_from_is_err_and}
 use Rattle.chars.proofs.ListingLaws.{tagged_complete, tagged-listed, tagged-many, tagged-stopped}

@@ -1,9 +1,8 @@
 -- `font::first_line` meets its contract: the header of the line that the cursor finds.
-use mathlib.Core.Path.{◌≡◌, ap, ◌∙◌}
+use mathlib.Core.Path.{◌≡◌, sym, ap, ◌∙◌}
 use mathlib.Core.List.{List}
 use Prim.Native.Nat.{ℕ}
 use Rattle.std.specs.Prelude.{Option, Some, None, Result, Ok, Err, ok_or}
-use Rattle.std.proofs.Common.{rules}
 use Rattle.std.proofs.lemmas.Result.{err_from_is_err_and}
 use Rattle.ground.specs.Refusals.{refusal, no_signature}
 use Rattle.ground.specs.declared.refusals.Refusal.{Refusal}
@@ -19,7 +18,7 @@ use Rattle.font.proofs.first_line.Goals.{In_ok-line}
 use Rattle.font.proofs.first_line.Goals as goal
 
 found : (c : In_ok-line) → LineFound c.args.font.now 0 c.in_ok-line.line
-found c = line-found _ _ _ ?
+found c = line-found _ _ _ (sym c.in_ok-line.ensures.ok_part ∙ c.next.ensures ∙ ap (next_line c.args.font.now) c.new.ensures)
 
 missed : (s : List ℕ) (o : Option Line) (q : Refusal) → o ≡ next_line s 0 → ◌≡◌ {A = Result Line Refusal} (Err q) (ok_or o (refusal no_signature 0)) → ◌≡◌ {A = Result Opening Refusal} (Err q) (first_line s)
 missed s (Some l) q h e = clash (cc)
@@ -28,7 +27,8 @@ missed s None q h e = let d : q ≡ refusal no_signature 0 = cc in ap Err d ∙ 
 pub returns-in_err-line : goal.returns-in_err-line
 returns-in_err-line c =
     let p = err_from_is_err_and c.from_residual.result c.from_residual.ensures.1 in
-    rw (p.1, p.2) ?
+    let s = c.args.font.now in
+    rw (p.1, p.2) (missed s c.next.result c.in_err-line.field-0.0 (c.next.ensures ∙ ap (next_line s) c.new.ensures) (c.in_err-line.ensures.value ∙ ap (ok_or c.next.result) c.of.ensures))
 
 pub slice_bounds-read_header-count : goal.slice_bounds-read_header-count
 slice_bounds-read_header-count c = line_order _ _ _ (found (goal.at.slice_bounds-read_header-count c).In_ok-line)
@@ -40,7 +40,9 @@ pub slice_bounds-read_header-end : goal.slice_bounds-read_header-end
 slice_bounds-read_header-end c = line-within _ _ _ (found (goal.at.slice_bounds-read_header-end c).In_ok-line)
 
 pub returns-in_err-h : goal.returns-in_err-h
-returns-in_err-h c = ?
+returns-in_err-h c =
+    let p = err_from_is_err_and c.from_residual-in_err-h.result c.from_residual-in_err-h.ensures.1 in
+    rw (p.1, p.2) (open_line _ _ (found (goal.at.returns-in_err-h c).In_ok-line) _ c.in_err-h.ensures)
 
 pub returns : goal.returns
-returns c = ?
+returns c = c.past_comments.ensures ∙ open_line _ _ (found (goal.at.returns c).In_ok-line) _ c.in_ok-h.ensures

@@ -1,7 +1,7 @@
 -- `rows::row_at` meets its contract: a plain line, or any other.
 use mathlib.Core.Path.{◌∙◌}
 use Rattle.lines.specs.Plain.{IsPlainLine}
-use Rattle.lines.proofs.LineLaws.{LineFound, line-within}
+use Rattle.lines.proofs.LineLaws.{line-within}
 use Rattle.lines.proofs.PlainLaws.{plain-told, plain-found}
 use Rattle.rows.proofs.RowLaws.{row_line}
 use Rattle.rows.proofs.row_at.Goals.{In-Some}

@@ -48,12 +48,12 @@ returns-then-out-h c =
     let a = c.args in
     no_room a.mode a.h (left_of p) (right_of p) (room p) c.overlap_of-overlap.result (is p) c.if-width-gt-MAX_LINE_WIDTH.false c.if-out-h.true _ _ c.refuse-then-out-h.ensures
 
-pub write_rows-requires : goal.write_rows-requires
-write_rows-requires c =
+pub write_rows-requires-clause-sides : goal.write_rows-requires-clause-sides
+write_rows-requires-clause-sides c =
     let l = c.requires.sized in
     let r = c.requires.sized_2 in
-    let o = low (goal.at.write_rows-requires c).After-overlap_of-overlap in
-    record { sides = (l.exact, r.exact, omega arith, omega arith, l.wide, r.wide); room = c.if-out-h.false }
+    let o = low (goal.at.write_rows-requires-clause-sides c).After-overlap_of-overlap in
+    (l.exact, r.exact, omega arith, omega arith, l.wide, r.wide)
 
 pub returns : goal.returns
 returns c =
