@@ -65,10 +65,10 @@ pub fn font_number(answer: Result<FontRead, Refusal>) -> u64
     requires { FontFits answer }
     ensures { result ≡ font_number answer }
 {
-    match answer {
-        Ok(read) => three_values(0, read.header.height, read.count),
-        Err(r) => refused_at(r),
-    }
+    answer.map_or_else(
+        refused_at,
+        |read| three_values(0, read.header.height, read.count),
+    )
 }
 
 // Of a control file: how many stages and commands it has.
@@ -76,10 +76,10 @@ pub fn control_number(answer: Result<ControlRead, Refusal>) -> u64
     requires { ControlFits answer }
     ensures { result ≡ control_number (control_tells answer) }
 {
-    match answer {
-        Ok(read) => three_values(0, read.stages, read.commands),
-        Err(r) => refused_at(r),
-    }
+    answer.map_or_else(
+        refused_at,
+        |read| three_values(0, read.stages, read.commands),
+    )
 }
 
 // Of a drawing: how many text bytes drew nothing, how many were stood in, and the width.
@@ -113,10 +113,10 @@ pub fn join_number(answer: Result<Joined, Refusal>) -> u64
     requires { JoinFits answer }
     ensures { result ≡ join_number (join_tells answer) }
 {
-    match answer {
-        Ok(joined) => three_values(0, joined.overlap, joined.width),
-        Err(r) => refused_at(r),
-    }
+    answer.map_or_else(
+        refused_at,
+        |joined| three_values(0, joined.overlap, joined.width),
+    )
 }
 
 // Of a stack: overlap, height and width.
@@ -124,10 +124,10 @@ pub fn stack_number(answer: Result<Stacked, Refusal>) -> u64
     requires { StackFits answer }
     ensures { result ≡ stack_number (stack_tells answer) }
 {
-    match answer {
-        Ok(stacked) => three_values(stacked.overlap, stacked.height, stacked.width),
-        Err(r) => refused_at(r),
-    }
+    answer.map_or_else(
+        refused_at,
+        |stacked| three_values(stacked.overlap, stacked.height, stacked.width),
+    )
 }
 
 // Of two lines, one above the other: the same of their stack.
@@ -151,10 +151,10 @@ pub fn pack_number(answer: Result<Accepted, Refusal>) -> u64
     requires { PackFits answer }
     ensures { result ≡ pack_number answer }
 {
-    match answer {
-        Ok(accepted) => three_values(0, accepted.height, accepted.live),
-        Err(r) => refused_at(r),
-    }
+    answer.map_or_else(
+        refused_at,
+        |accepted| three_values(0, accepted.height, accepted.live),
+    )
 }
 
 // Of a letter in a pack: where its rows start, and its width.
@@ -162,10 +162,7 @@ pub fn find_number(answer: Result<Found, Refusal>) -> u64
     requires { FindFits answer }
     ensures { result ≡ find_number answer }
 {
-    match answer {
-        Ok(found) => placed_at(found.place, found.width),
-        Err(r) => refused_at(r),
-    }
+    answer.map_or_else(refused_at, |found| placed_at(found.place, found.width))
 }
 
 // Of a change of a pack: 0 where it is done.
@@ -173,10 +170,7 @@ pub fn edit_number(answer: Result<(), Refusal>) -> u64
     requires { EditFits answer }
     ensures { result ≡ edit_number answer }
 {
-    match answer {
-        Ok(()) => 0,
-        Err(r) => refused_at(r),
-    }
+    answer.map_or_else(refused_at, |()| 0)
 }
 
 // Of the check of a drawing: 0 where it is accepted, else what is wrong and where.

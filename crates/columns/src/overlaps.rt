@@ -1,9 +1,9 @@
 // By how many rows two blocks overlap. Columns on the right of the narrower block have only blanks on one side, and are not looked at.
-ghost use Rattle.std.specs.Prelude.{◌≡◌, ◌≤◌, ◌<◌, min};
+ghost use Rattle.std.specs.Prelude.{ℕ, Bool, ◌≡◌, ◌≤◌, ◌<◌, min};
 ghost use Rattle.ground.specs.Limits.{max_line_width};
 ghost use Rattle.lanes.specs.Overlap.{lane_facing, facing, furthest, fitting, smushing};
 ghost use Rattle.blocks.specs.Writing.{RowAfterRow};
-ghost use Rattle.vertical.specs.VerticalPair.{passes_by};
+ghost use Rattle.vertical.specs.VerticalPair.{merges, barred, AnswersAs};
 ghost use Rattle.columns.specs.Stack.{supersmushing, stack_overlap};
 ghost use Rattle.columns.specs.Placing.{placed_block, placed_columns};
 
@@ -11,7 +11,6 @@ use crate::Placed;
 use ground::limits;
 use lanes::View;
 use subchars::{SubCharacter, VerticalLayout, VerticalSmushing};
-use vertical::PairTest;
 
 // Where the first w columns of a block start.
 fn column_starts(w: usize) -> [usize; limits::MAX_LINE_WIDTH]
@@ -54,22 +53,23 @@ fn fitting_rows(hardblank: SubCharacter, upper: Placed, lower: Placed) -> usize
 }
 
 // Whether each facing pair of column c passes a test at overlap o.
-fn column_passes(
-    test: PairTest,
+fn column_passes<T: Fn(SubCharacter, SubCharacter) -> bool>(
+    test: &T,
     hardblank: SubCharacter,
     upper: Placed,
     lower: Placed,
     o: usize,
     c: usize,
 ) -> bool
-    requires { (o ≤ upper.height) × (o ≤ lower.height) }
-    ensures { result ≡ lane_facing (passes_by test) upper.entry.height (placed_columns hardblank.0 upper.entry c) (placed_columns hardblank.0 lower.entry c) o }
+    requires callable { T.IsAlwaysCallable test.now }
+    requires within { (o ≤ upper.height) × (o ≤ lower.height) }
+    ensures { (p : ℕ → ℕ → Bool) → AnswersAs (T.post test.now) p → result ≡ lane_facing p upper.entry.height (placed_columns hardblank.0 upper.entry c) (placed_columns hardblank.0 lower.entry c) o }
 {
     let first = upper.height - o;
     for i in 0..o {
         let x = upper.cell(hardblank, first + i, c);
         let y = lower.cell(hardblank, i, c);
-        if !vertical::passes(test, x, y) {
+        if !test(x, y) {
             return false;
         }
     }
@@ -77,15 +77,16 @@ fn column_passes(
 }
 
 // Whether each facing pair passes a test at overlap o.
-fn columns_pass(
-    test: PairTest,
+fn columns_pass<T: Fn(SubCharacter, SubCharacter) -> bool>(
+    test: &T,
     hardblank: SubCharacter,
     upper: Placed,
     lower: Placed,
     o: usize,
 ) -> bool
-    requires { (o ≤ upper.height) × (o ≤ lower.height) }
-    ensures { result ≡ facing (passes_by test) (min upper.entry.width lower.entry.width) upper.entry.height (placed_columns hardblank.0 upper.entry) (placed_columns hardblank.0 lower.entry) o }
+    requires callable { T.IsAlwaysCallable test.now }
+    requires within { (o ≤ upper.height) × (o ≤ lower.height) }
+    ensures { (p : ℕ → ℕ → Bool) → AnswersAs (T.post test.now) p → result ≡ facing p (min upper.entry.width lower.entry.width) upper.entry.height (placed_columns hardblank.0 upper.entry) (placed_columns hardblank.0 lower.entry) o }
 {
     for c in 0..upper.width.min(lower.width) {
         if !column_passes(test, hardblank, upper, lower, o, c) {
@@ -96,12 +97,18 @@ fn columns_pass(
 }
 
 // The smushing overlap by a test: the fitting one, or one more where every pair passes there.
-fn smushing_rows(test: PairTest, hardblank: SubCharacter, upper: Placed, lower: Placed) -> usize
-    ensures { result ≡ smushing (passes_by test) (min upper.entry.width lower.entry.width) upper.entry.height lower.entry.height (placed_columns hardblank.0 upper.entry) (placed_columns hardblank.0 lower.entry) }
+fn smushing_rows<T: Fn(SubCharacter, SubCharacter) -> bool>(
+    test: T,
+    hardblank: SubCharacter,
+    upper: Placed,
+    lower: Placed,
+) -> usize
+    requires callable { T.IsAlwaysCallable test }
+    ensures { (p : ℕ → ℕ → Bool) → AnswersAs (T.post test) p → result ≡ smushing p (min upper.entry.width lower.entry.width) upper.entry.height lower.entry.height (placed_columns hardblank.0 upper.entry) (placed_columns hardblank.0 lower.entry) }
 {
     let fit = fitting_rows(hardblank, upper, lower);
     if fit < upper.height.min(lower.height)
-        && columns_pass(test, hardblank, upper, lower, fit + 1)
+        && columns_pass(&test, hardblank, upper, lower, fit + 1)
     {
         return fit + 1;
     }
@@ -109,12 +116,18 @@ fn smushing_rows(test: PairTest, hardblank: SubCharacter, upper: Placed, lower: 
 }
 
 // The largest overlap at which, together with all smaller ones, every pair passes a test.
-fn furthest_rows(test: PairTest, hardblank: SubCharacter, upper: Placed, lower: Placed) -> usize
-    ensures { result ≡ furthest (passes_by test) (min upper.entry.width lower.entry.width) upper.entry.height lower.entry.height (placed_columns hardblank.0 upper.entry) (placed_columns hardblank.0 lower.entry) }
+fn furthest_rows<T: Fn(SubCharacter, SubCharacter) -> bool>(
+    test: T,
+    hardblank: SubCharacter,
+    upper: Placed,
+    lower: Placed,
+) -> usize
+    requires callable { T.IsAlwaysCallable test }
+    ensures { (p : ℕ → ℕ → Bool) → AnswersAs (T.post test) p → result ≡ furthest p (min upper.entry.width lower.entry.width) upper.entry.height lower.entry.height (placed_columns hardblank.0 upper.entry) (placed_columns hardblank.0 lower.entry) }
 {
     let most = upper.height.min(lower.height);
     for o in 0..most {
-        if !columns_pass(test, hardblank, upper, lower, o + 1) {
+        if !columns_pass(&test, hardblank, upper, lower, o + 1) {
             return o;
         }
     }
@@ -126,12 +139,17 @@ fn supersmushing_rows(set: u16, hardblank: SubCharacter, upper: Placed, lower: P
     ensures { result ≡ supersmushing set (min upper.entry.width lower.entry.width) upper.entry.height lower.entry.height (placed_columns hardblank.0 upper.entry) (placed_columns hardblank.0 lower.entry) }
 {
     let fit = fitting_rows(hardblank, upper, lower);
-    let far = furthest_rows(PairTest::Bars, hardblank, upper, lower);
+    let far = furthest_rows(vertical::is_barred, hardblank, upper, lower);
     if fit < far {
         return far;
     }
     let others = VerticalLayout::Smushing(VerticalSmushing::Controlled(set % 4096));
-    smushing_rows(PairTest::ByLayout(others), hardblank, upper, lower)
+    smushing_rows(
+        |u, l| vertical::can_merge(others, u, l),
+        hardblank,
+        upper,
+        lower,
+    )
 }
 
 // The overlap of two blocks by a layout.
@@ -147,13 +165,23 @@ pub fn overlap_of(
         VerticalLayout::FullHeight => 0,
         VerticalLayout::Fitting => fitting_rows(hardblank, upper, lower),
         VerticalLayout::Smushing(VerticalSmushing::Universal) => {
-            smushing_rows(PairTest::ByLayout(layout), hardblank, upper, lower)
+            smushing_rows(
+                |u, l| vertical::can_merge(layout, u, l),
+                hardblank,
+                upper,
+                lower,
+            )
         }
         VerticalLayout::Smushing(VerticalSmushing::Controlled(set)) => {
             if set / 4096 % 2 == 1 {
                 supersmushing_rows(set, hardblank, upper, lower)
             } else {
-                smushing_rows(PairTest::ByLayout(layout), hardblank, upper, lower)
+                smushing_rows(
+                    |u, l| vertical::can_merge(layout, u, l),
+                    hardblank,
+                    upper,
+                    lower,
+                )
             }
         }
     }

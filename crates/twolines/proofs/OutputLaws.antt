@@ -1,18 +1,17 @@
 -- What is put out of the two areas is what the two lines come to, and what each refusal leaves.
 -- Assumes nothing.
 use mathlib.Core.Path.{◌≡◌, refl, sym, ◌∙◌, ap, ap₂, subst}
-use mathlib.Core.Bool.{Bool, true, false, cond, ◌||◌}
+use mathlib.Core.Bool.{Bool, false, cond, ◌||◌}
 use mathlib.Core.List.{List, ◌++◌}
-use Prim.Native.Nat.{ℕ, ◌+◌, ◌-◌, ◌≤◌, ◌<◌}
+use Prim.Native.Nat.{ℕ, ◌+◌, ◌-◌, ◌≤◌}
 use native.Mathlib.Omega.{arith}
 use lib.Dec.{ltb}
-use borrow.Author.Tests.{lt-ltb, le-ltb}
+use borrow.Author.Tests.{le-ltb}
 use Rattle.std.specs.Prelude.{Result, Ok, Err}
 use Rattle.ground.specs.Area.{zeros}
 use Rattle.ground.specs.Limits.{max_line_width}
 use Rattle.ground.specs.Refusals.{refusal, line_too_wide}
 use Rattle.ground.specs.declared.refusals.Refusal.{Refusal}
-use Rattle.ground.proofs.Tests.{or_left, or_right}
 use Rattle.subchars.specs.declared.Code.{Code}
 use Rattle.subchars.specs.declared.Mode.{Mode}
 use Rattle.subchars.specs.declared.VerticalLayout.{VerticalLayout}
@@ -102,12 +101,6 @@ module _ (y : Mode) (vertical : VerticalLayout) (h : ℕ) (source : Source) (us 
 
   as_lines : (t : TwoLines) → both ≡ t → LinesOut t room r out → LinesOut both room r out
   as_lines t e p = subst (λ (x : TwoLines). LinesOut x room r out) (sym e) p
-
-  pub upper_wide : max_line_width < n → LinesOut (no_lines (refusal line_too_wide 0)) room r out → LinesOut both room r out
-  upper_wide u = as_lines _ (by_width true (or_left (ltb max_line_width a.width) (ltb max_line_width b.width) (lt-ltb max_line_width a.width (first.line.beyond u))))
-
-  pub lower_wide : max_line_width < m → LinesOut (no_lines (refusal line_too_wide 0)) room r out → LinesOut both room r out
-  lower_wide u = as_lines _ (by_width true (or_right (ltb max_line_width a.width) (ltb max_line_width b.width) (lt-ltb max_line_width b.width (second.line.beyond u))))
 
   module _ (u : n ≤ max_line_width) (v : m ≤ max_line_width) where
     narrow : (ltb max_line_width a.width || ltb max_line_width b.width) ≡ false

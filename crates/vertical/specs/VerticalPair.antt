@@ -3,14 +3,13 @@
 -- Assumes nothing.
 use Rattle.std.specs.Prelude.{ℕ, ◌%◌, ◌≡◌, Bool, true, cond, ◌&&◌, ◌||◌, List, [], ◌∷◌, eqb, leb, Option, Some, None, unwrap_or}
 use Rattle.ground.specs.Text.{byte}
+use Rattle.subchars.specs.declared.SubCharacter.{SubCharacter}
 use Rattle.subchars.specs.declared.VerticalSmushing.TheVariants.{Universal, Controlled}
 use Rattle.subchars.specs.declared.VerticalLayout.{VerticalLayout}
 use Rattle.subchars.specs.declared.VerticalLayout.TheVariants.{FullHeight, Fitting, Smushing}
 use Rattle.subchars.specs.Layouts.{has}
 use Rattle.subchars.specs.Hardblank.{blank}
 use Rattle.rules.specs.Rules.{joined_if, or_else, is_some, equal_character, underscore, hierarchy, reads, either_order}
-use Rattle.vertical.specs.declared.PairTest.{PairTest}
-use Rattle.vertical.specs.declared.PairTest.TheVariants.{ByLayout, Bars}
 
 -- The rules by the standard's names, in its order.
 pub data VerticalRule : Type 0 where
@@ -83,10 +82,9 @@ barred u l = eqb u blank || eqb l blank || two_bars u l
 abbrev pub other_rules : ℕ → ℕ
 other_rules set = set % 4096
 
--- What an overlap asks of each pair that faces: that the layout joins it, or that it has a blank or is of two bars.
-abbrev pub passes_by : PairTest → ℕ → ℕ → Bool
-passes_by (ByLayout layout) u l = merges layout u l
-passes_by Bars u l = barred u l
+-- A test of pairs, by what it may answer, answers as p does.
+abbrev pub AnswersAs : (SubCharacter → SubCharacter → Bool → Type 0) → (ℕ → ℕ → Bool) → Type 0
+AnswersAs post p = (u l : SubCharacter) (t : Bool) → post u l t → t ≡ p u.0 l.0
 
 -- "17 as in the join, but .. the five rules": a set is a sum of one to five of them, 256 to 7,936 in steps of 256.
 abbrev pub good_set : ℕ → Bool

@@ -3,18 +3,11 @@
 
 ghost use Rattle.std.specs.Prelude.{◌≡◌, option_map};
 ghost use Rattle.rules.specs.Rules.{either_order};
-ghost use Rattle.vertical.specs.VerticalPair.{set_has, two_bars, first_merging, merge, merges, merged_byte, barred, passes_by, good_set, good_vertical};
+ghost use Rattle.vertical.specs.VerticalPair.{set_has, two_bars, first_merging, merge, merges, merged_byte, barred, good_set, good_vertical};
 ghost use Rattle.vertical.specs.Steps.{sideways_layout, rules_of, line_rules};
 
 use pairs::Joint;
 use subchars::{Direction, Layout, Mode, Smushing, SubCharacter, VerticalLayout, VerticalSmushing};
-
-// What an overlap asks of each pair that faces: that the layout joins it, or that it has a blank or is of two bars.
-#[derive(Clone, Copy, PartialEq, Eq)]
-pub enum PairTest {
-    ByLayout(VerticalLayout),
-    Bars,
-}
 
 // A hyphen and an underscore, in either order.
 fn is_line(u: SubCharacter, l: SubCharacter) -> bool
@@ -93,8 +86,9 @@ pub fn merged_byte(layout: VerticalLayout, u: SubCharacter, l: SubCharacter) -> 
     merge_of(layout, u, l).unwrap_or(SubCharacter(b'\0'))
 }
 
+// Whether the layout can join a pair, u above l.
 #[tactic(auto, unfolding(crate::specs::VerticalPair::merges, rules::specs::Rules::is_some))]
-fn can_merge(layout: VerticalLayout, u: SubCharacter, l: SubCharacter) -> bool
+pub fn can_merge(layout: VerticalLayout, u: SubCharacter, l: SubCharacter) -> bool
     ensures { result ≡ merges layout u.0 l.0 }
 {
     merge_of(layout, u, l).is_some()
@@ -102,20 +96,10 @@ fn can_merge(layout: VerticalLayout, u: SubCharacter, l: SubCharacter) -> bool
 
 // Whether a pair has a blank or is of two bars.
 #[tactic(auto, unfolding(crate::specs::VerticalPair::barred))]
-fn is_barred(u: SubCharacter, l: SubCharacter) -> bool
+pub fn is_barred(u: SubCharacter, l: SubCharacter) -> bool
     ensures { result ≡ barred u.0 l.0 }
 {
     u.0 == b' ' || l.0 == b' ' || is_bars(u, l)
-}
-
-// Whether a pair passes a test, u above l.
-pub fn passes(test: PairTest, u: SubCharacter, l: SubCharacter) -> bool
-    ensures { result ≡ passes_by test u.0 l.0 }
-{
-    match test {
-        PairTest::ByLayout(layout) => can_merge(layout, u, l),
-        PairTest::Bars => is_barred(u, l),
-    }
 }
 
 // Whether a set is a sum of one to five of the rules.

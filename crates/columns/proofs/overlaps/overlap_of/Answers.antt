@@ -1,5 +1,6 @@
 -- `columns::overlaps::overlap_of` meets its contract.
 use mathlib.Core.Path.{◌≡◌, refl, ◌∙◌, sym, ap}
+use Rattle.std.proofs.Common.{rules}
 use Prim.Native.Nat.{ℕ, min}
 use borrow.Author.Tests.{eq-eqb, ne_eqb}
 use Rattle.subchars.specs.declared.VerticalLayout.{VerticalLayout}
@@ -46,7 +47,7 @@ unfolding columns_overlap
 returns-in-Smushing-Universal c =
     let s = (goal.at.returns-in-Smushing-Universal c).Start in
     let e : s.args.layout ≡ Smushing Universal = c.in-Smushing-Universal.is ∙ ap Smushing (rw c.in-Smushing-Universal.is at c.in-Smushing-Universal.field-0-is) in
-    whole s c.smushing_rows.result (Smushing Universal) e (c.smushing_rows.ensures ∙ ap (smushed s) e)
+    whole s c.smushing_rows.result (Smushing Universal) e (c.smushing_rows.ensures (merges s.args.layout) (λ u l t e. search rules) ∙ ap (smushed s) e)
 
 -- controlled smushing by the set, with 4096 or without
 pub returns-then-set-eq1 : goal.returns-then-set-eq1
@@ -59,4 +60,4 @@ returns-else-set-eq1 c =
     let s = (goal.at.returns-else-set-eq1 c).Start in
     let e : s.args.layout ≡ ruled c.in-Smushing-Controlled.set = c.in-Smushing-Controlled.is ∙ ap Smushing (rw c.in-Smushing-Controlled.is at c.in-Smushing-Controlled.field-0-is) in
     whole s c.smushing_rows-else-set-eq1.result (ruled _) e
-    (c.smushing_rows-else-set-eq1.ensures ∙ (ap (smushed s) e ∙ sym (ruled_smushing _ _ _ _ _ _ (ne_eqb _ _ c.if-set-eq1.false))))
+    (c.smushing_rows-else-set-eq1.ensures (merges s.args.layout) (λ u l t e. search rules) ∙ (ap (smushed s) e ∙ sym (ruled_smushing _ _ _ _ _ _ (ne_eqb _ _ c.if-set-eq1.false))))

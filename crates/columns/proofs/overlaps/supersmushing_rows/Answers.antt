@@ -1,8 +1,12 @@
 -- `columns::overlaps::supersmushing_rows` meets its contract.
 use mathlib.Core.Path.{◌∙◌, sym}
+use Rattle.std.proofs.Common.{rules}
 use Prim.Native.Nat.{ℕ, min}
 use native.Mathlib.Omega.{arith}
 use Rattle.lanes.specs.Blocks.{Cells}
+use Rattle.subchars.specs.declared.VerticalSmushing.TheVariants.{Controlled}
+use Rattle.subchars.specs.declared.VerticalLayout.TheVariants.{Smushing}
+use Rattle.vertical.specs.VerticalPair.{merges, barred, other_rules}
 use Rattle.columns.specs.Placing.{placed_columns}
 use Rattle.columns.proofs.Demand.{super_far, super_else}
 use Rattle.columns.proofs.overlaps.supersmushing_rows.Goals.{Start}
@@ -21,12 +25,12 @@ pub returns-then-fit-far : goal.returns-then-fit-far
 returns-then-fit-far c =
     let s = (goal.at.returns-then-fit-far c).Start in
     let fit = c.fitting_rows-fit in
-    let far = c.furthest_rows-far in
-    far.ensures ∙ sym (super_far (narrow s) c.args.upper.height c.args.lower.height (up s) (low s) c.args.set (omega (arith, c.if-fit-far.true, fit.ensures, far.ensures)))
+    let far = c.furthest_rows-far.ensures barred (λ u l t e. search rules) in
+    far ∙ sym (super_far (narrow s) c.args.upper.height c.args.lower.height (up s) (low s) c.args.set (omega (arith, c.if-fit-far.true, fit.ensures, far)))
 
 pub returns : goal.returns
 returns c =
     let s = (goal.at.returns c).Start in
     let fit = c.fitting_rows-fit in
-    let far = c.furthest_rows-far in
-    c.smushing_rows.ensures ∙ sym (super_else (narrow s) c.args.upper.height c.args.lower.height (up s) (low s) c.args.set (omega (arith, c.if-fit-far.false, fit.ensures, far.ensures)))
+    let far = c.furthest_rows-far.ensures barred (λ u l t e. search rules) in
+    c.smushing_rows.ensures (merges (Smushing (Controlled (other_rules c.args.set)))) (λ u l t e. search rules) ∙ sym (super_else (narrow s) c.args.upper.height c.args.lower.height (up s) (low s) c.args.set (omega (arith, c.if-fit-far.false, fit.ensures, far)))
