@@ -3,7 +3,7 @@
 use mathlib.Core.Path.{◌≡◌, refl}
 use mathlib.Core.Bool.{Bool, true, false, cond}
 use mathlib.Core.List.{List, ◌++◌}
-use Prim.Native.Nat.{ℕ, ◌+◌, ◌*◌, ◌≤◌, ◌<◌}
+use Prim.Native.Nat.{ℕ, ◌+◌, ◌*◌, ◌≤◌}
 use native.Mathlib.Omega.{arith}
 use native.Mathlib.Nat.{mul-le-mul_right}
 use lib.Dec.{eqb, ltb}
@@ -38,8 +38,7 @@ use Rattle.source.proofs.CountLaws.{few_replaced}
 use Rattle.drawing.specs.Drawing.{text_codes, line_of, draws, refuses, unlined, lined_read, lined_from, with_counts, lined_answer}
 use Rattle.drawing.proofs.DrawingLaws.{as_many}
 use Rattle.packdrawing.specs.PackDrawing.{pack_mode, pack_by, pack_of, pack_lined}
-use Rattle.answers.specs.Numbers.{value_bound}
-use Rattle.answers.specs.Fits.{RefusalFits, DrawFits, PackFits, FindFits, EditFits}
+use Rattle.answers.specs.Fits.{DrawFits, PackFits, FindFits, EditFits}
 use Rattle.capi.proofs.Bounds.{known, control-fits}
 
 -- A pack has fewer live records than bytes.

@@ -1,5 +1,5 @@
 -- `controlcalls::read_control` meets its contract, for every input: 9, and then what the file says.
-use mathlib.Core.Path.{◌≡◌, sym, ap, ◌∙◌}
+use mathlib.Core.Path.{◌≡◌, ap}
 use Prim.Native.Nat.{ℕ}
 use lib.ListN.{length}
 use Rattle.std.proofs.Common.{min}
