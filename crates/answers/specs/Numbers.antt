@@ -1,20 +1,17 @@
 -- An answer as one number of 64 bits.
 -- Assumes nothing.
-use Rattle.std.specs.Prelude.{ℕ, ◌+◌, ◌*◌, Bool, cond}
-use Rattle.reader.specs.declared.FontAnswer.{FontAnswer}
-use Rattle.reader.specs.declared.FontAnswer.TheVariants.{Read, Refused}
-use Rattle.checking.specs.declared.CheckAnswer.{CheckAnswer}
-use Rattle.checking.specs.declared.CheckAnswer.TheVariants as check-is
+use Rattle.std.specs.Prelude.{ℕ, ◌+◌, ◌*◌, Bool, cond, Result, Ok, Err}
+use Rattle.ground.specs.Refusals.{number_of}
+use Rattle.ground.specs.declared.refusals.Refusal.{Refusal}
+use Rattle.reader.specs.declared.FontRead.{FontRead}
+use Rattle.checking.specs.declared.Verdict.{Verdict}
+use Rattle.checking.specs.declared.Verdict.TheVariants as check-is
 use Rattle.controlcalls.specs.ControlCall.{ControlTold}
 use Rattle.wattleslate.specs.DrawCall.{DrawTold}
 use Rattle.join.specs.JoinCall.{JoinTold}
 use Rattle.stack.specs.StackCall.{StackTold}
-use Rattle.pack.specs.declared.PackAnswer.{PackAnswer}
-use Rattle.pack.specs.declared.PackAnswer.TheVariants as pack-is
-use Rattle.pack.specs.declared.FindAnswer.{FindAnswer}
-use Rattle.pack.specs.declared.FindAnswer.TheVariants as find-is
-use Rattle.pack.specs.declared.EditAnswer.{EditAnswer}
-use Rattle.pack.specs.declared.EditAnswer.TheVariants as edit-is
+use Rattle.pack.specs.declared.Accepted.{Accepted}
+use Rattle.pack.specs.declared.Found.{Found}
 use Rattle.wrapping.specs.declared.WrapAnswer.{WrapAnswer}
 use Rattle.wrapping.specs.declared.WrapAnswer.TheVariants as wrap-is
 use Rattle.wrapping.specs.declared.WrapAnswer.TheVariants.{Wrapped}
@@ -40,9 +37,9 @@ abbrev pub telling : Bool → ℕ → ℕ → ℕ → ℕ
 telling refused number place values = cond refused (refused_at number place) values
 
 -- The check of a font: its Height, and how many characters it has.
-abbrev pub font_number : FontAnswer → ℕ
-font_number (Read h n) = three_values 0 h.height n
-font_number (Refused r) = refused_at r.number r.place
+abbrev pub font_number : Result FontRead Refusal → ℕ
+font_number (Ok f) = three_values 0 f.header.height f.count
+font_number (Err r) = refused_at (number_of r.reason) r.place
 
 -- The check of a control file: the counts of stages and of commands.
 abbrev pub control_number : ControlTold → ℕ
@@ -55,7 +52,7 @@ draw_number t = telling t.refused t.number t.place (three_values t.nothing_drawn
 -- 02, Q-4: how many lines, and Q-2's two counts of the whole text.
 abbrev pub wrap_number : WrapAnswer → ℕ
 wrap_number (Wrapped lines counts) = three_values counts.nothing_drawn counts.stood_in lines
-wrap_number (wrap-is.Refused r) = refused_at r.number r.place
+wrap_number (wrap-is.Refused r) = refused_at (number_of r.reason) r.place
 
 -- "It answers the overlap and the result width."
 abbrev pub join_number : JoinTold → ℕ
@@ -66,29 +63,29 @@ abbrev pub stack_number : StackTold → ℕ
 stack_number t = telling t.refused t.number t.place (three_values t.overlap t.height t.width)
 
 -- 02, Q-6. The check of a pack: its Height, and how many records are live.
-abbrev pub pack_number : PackAnswer → ℕ
-pack_number (pack-is.Accepted h n) = three_values 0 h n
-pack_number (pack-is.Refused r) = refused_at r.number r.place
+abbrev pub pack_number : Result Accepted Refusal → ℕ
+pack_number (Ok p) = three_values 0 p.height p.live
+pack_number (Err r) = refused_at (number_of r.reason) r.place
 
 -- The width of a letter, and in the bits of the other two values where its rows start.
 abbrev pub placed_at : ℕ → ℕ → ℕ
 placed_at place width = place * value_bound + width
 
-abbrev pub find_number : FindAnswer → ℕ
-find_number (find-is.Found place width) = placed_at place width
-find_number (find-is.Refused r) = refused_at r.number r.place
+abbrev pub find_number : Result Found Refusal → ℕ
+find_number (Ok f) = placed_at f.place f.width
+find_number (Err r) = refused_at (number_of r.reason) r.place
 
 -- A change that is done tells nothing.
-abbrev pub edit_number : EditAnswer → ℕ
-edit_number edit-is.Done = 0
-edit_number (edit-is.Refused r) = refused_at r.number r.place
+abbrev pub edit_number : Result Unit Refusal → ℕ
+edit_number (Ok u) = 0
+edit_number (Err r) = refused_at (number_of r.reason) r.place
 
 -- The check of a drawing, 02, Q-8: 0 accepted, 1 a wrong overlap, 2 a wrong byte, in the bits above 32; below them where it is.
 abbrev pub where_wrong : ℕ → ℕ → ℕ
 where_wrong what place = what * value_bound * value_bound + place
 
-abbrev pub check_number : CheckAnswer → ℕ
-check_number check-is.Accepted = 0
-check_number (check-is.WrongOverlap k) = where_wrong 1 k
-check_number (check-is.WrongByte p) = where_wrong 2 p
-check_number (check-is.Refused r) = refused_at r.number r.place
+abbrev pub check_number : Result Verdict Refusal → ℕ
+check_number (Ok check-is.Accepted) = 0
+check_number (Ok (check-is.WrongOverlap k)) = where_wrong 1 k
+check_number (Ok (check-is.WrongByte p)) = where_wrong 2 p
+check_number (Err r) = refused_at (number_of r.reason) r.place

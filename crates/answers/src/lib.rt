@@ -2,6 +2,7 @@
 #![tactic(auto)]
 
 ghost use Rattle.std.specs.Prelude.{◌≡◌, ◌<◌, ◌*◌};
+ghost use Rattle.ground.specs.Refusals.{number_of};
 ghost use Rattle.join.specs.JoinCall.{join_tells};
 ghost use Rattle.stack.specs.StackCall.{stack_tells};
 ghost use Rattle.twolines.specs.TwoLines.{stack_part};
@@ -10,13 +11,14 @@ ghost use Rattle.wattleslate.specs.DrawCall.{draw_tells};
 ghost use Rattle.answers.specs.Numbers.{value_bound, refused_at, three_values, placed_at, where_wrong, font_number, control_number, draw_number, wrap_number, join_number, stack_number, pack_number, find_number, edit_number, check_number};
 ghost use Rattle.answers.specs.Fits.{RefusalFits, ValuesFit, PlaceFits, FontFits, ControlFits, DrawFits, WrapFits, JoinFits, StackFits, PackFits, FindFits, EditFits, CheckFits};
 
-use checking::CheckAnswer;
+use checking::Verdict;
 use drawing::DrawAnswer;
-use flc::ControlAnswer;
-use join::JoinAnswer;
-use pack::{EditAnswer, FindAnswer, PackAnswer};
-use reader::FontAnswer;
-use stack::StackAnswer;
+use flc::ControlRead;
+use ground::refusals::Refusal;
+use join::Joined;
+use pack::{Accepted, Found};
+use reader::FontRead;
+use stack::Stacked;
 use twolines::LinesAnswer;
 use wrapping::WrapAnswer;
 
@@ -27,11 +29,11 @@ const VALUE_BOUND: u64 = 65536;
 const PLACE_BOUND: u64 = VALUE_BOUND * VALUE_BOUND * VALUE_BOUND;
 
 // A refusal's number above its place.
-pub fn refused_at(number: usize, place: usize) -> u64
-    requires { RefusalFits number place }
-    ensures { result ≡ refused_at number place }
+pub fn refused_at(r: Refusal) -> u64
+    requires { RefusalFits (number_of r.reason) r.place }
+    ensures { result ≡ refused_at (number_of r.reason) r.place }
 {
-    number as u64 * PLACE_BOUND + place as u64
+    r.reason.number() as u64 * PLACE_BOUND + r.place as u64
 }
 
 // Three values in the place's bits.
@@ -59,28 +61,25 @@ fn where_wrong(what: u64, place: usize) -> u64
 }
 
 // Of a font: its height, and how many characters it has.
-pub fn font_number(answer: FontAnswer) -> u64
+pub fn font_number(answer: Result<FontRead, Refusal>) -> u64
     requires { FontFits answer }
     ensures { result ≡ font_number answer }
 {
-    match answer {
-        FontAnswer::Read { header, count } => {
-            let height = header.height;
-            three_values(0, height, count)
-        }
-        FontAnswer::Refused(r) => refused_at(r.number, r.place),
-    }
+    answer.map_or_else(
+        refused_at,
+        |read| three_values(0, read.header.height, read.count),
+    )
 }
 
 // Of a control file: how many stages and commands it has.
-pub fn control_number(answer: ControlAnswer) -> u64
+pub fn control_number(answer: Result<ControlRead, Refusal>) -> u64
     requires { ControlFits answer }
     ensures { result ≡ control_number (control_tells answer) }
 {
-    match answer {
-        ControlAnswer::Read { commands, stages } => three_values(0, stages, commands),
-        ControlAnswer::Refused(r) => refused_at(r.number, r.place),
-    }
+    answer.map_or_else(
+        refused_at,
+        |read| three_values(0, read.stages, read.commands),
+    )
 }
 
 // Of a drawing: how many text bytes drew nothing, how many were stood in, and the width.
@@ -92,7 +91,7 @@ pub fn draw_number(answer: DrawAnswer) -> u64
         DrawAnswer::Drawn { width, counts } => {
             three_values(counts.nothing_drawn, counts.stood_in, width)
         }
-        DrawAnswer::Refused(r) => refused_at(r.number, r.place),
+        DrawAnswer::Refused(r) => refused_at(r),
     }
 }
 
@@ -105,34 +104,30 @@ pub fn wrap_number(answer: WrapAnswer) -> u64
         WrapAnswer::Wrapped { lines, counts } => {
             three_values(counts.nothing_drawn, counts.stood_in, lines)
         }
-        WrapAnswer::Refused(r) => refused_at(r.number, r.place),
+        WrapAnswer::Refused(r) => refused_at(r),
     }
 }
 
 // Of a join: overlap and width.
-pub fn join_number(answer: JoinAnswer) -> u64
+pub fn join_number(answer: Result<Joined, Refusal>) -> u64
     requires { JoinFits answer }
     ensures { result ≡ join_number (join_tells answer) }
 {
-    match answer {
-        JoinAnswer::Joined { overlap, width } => three_values(0, overlap, width),
-        JoinAnswer::Refused(r) => refused_at(r.number, r.place),
-    }
+    answer.map_or_else(
+        refused_at,
+        |joined| three_values(0, joined.overlap, joined.width),
+    )
 }
 
 // Of a stack: overlap, height and width.
-pub fn stack_number(answer: StackAnswer) -> u64
+pub fn stack_number(answer: Result<Stacked, Refusal>) -> u64
     requires { StackFits answer }
     ensures { result ≡ stack_number (stack_tells answer) }
 {
-    match answer {
-        StackAnswer::Stacked {
-            overlap,
-            height,
-            width,
-        } => three_values(overlap, height, width),
-        StackAnswer::Refused(r) => refused_at(r.number, r.place),
-    }
+    answer.map_or_else(
+        refused_at,
+        |stacked| three_values(stacked.overlap, stacked.height, stacked.width),
+    )
 }
 
 // Of two lines, one above the other: the same of their stack.
@@ -147,52 +142,46 @@ pub fn lines_number(answer: LinesAnswer) -> u64
             width: w,
             counts: _,
         } => three_values(o, h, w),
-        LinesAnswer::Refused(r) => refused_at(r.number, r.place),
+        LinesAnswer::Refused(r) => refused_at(r),
     }
 }
 
 // Of a pack: its height and how many records are live.
-pub fn pack_number(answer: PackAnswer) -> u64
+pub fn pack_number(answer: Result<Accepted, Refusal>) -> u64
     requires { PackFits answer }
     ensures { result ≡ pack_number answer }
 {
-    match answer {
-        PackAnswer::Accepted { height, live } => three_values(0, height, live),
-        PackAnswer::Refused(r) => refused_at(r.number, r.place),
-    }
+    answer.map_or_else(
+        refused_at,
+        |accepted| three_values(0, accepted.height, accepted.live),
+    )
 }
 
 // Of a letter in a pack: where its rows start, and its width.
-pub fn find_number(answer: FindAnswer) -> u64
+pub fn find_number(answer: Result<Found, Refusal>) -> u64
     requires { FindFits answer }
     ensures { result ≡ find_number answer }
 {
-    match answer {
-        FindAnswer::Found { place, width } => placed_at(place, width),
-        FindAnswer::Refused(r) => refused_at(r.number, r.place),
-    }
+    answer.map_or_else(refused_at, |found| placed_at(found.place, found.width))
 }
 
 // Of a change of a pack: 0 where it is done.
-pub fn edit_number(answer: EditAnswer) -> u64
+pub fn edit_number(answer: Result<(), Refusal>) -> u64
     requires { EditFits answer }
     ensures { result ≡ edit_number answer }
 {
-    match answer {
-        EditAnswer::Done => 0,
-        EditAnswer::Refused(r) => refused_at(r.number, r.place),
-    }
+    answer.map_or_else(refused_at, |()| 0)
 }
 
 // Of the check of a drawing: 0 where it is accepted, else what is wrong and where.
-pub fn check_number(answer: CheckAnswer) -> u64
+pub fn check_number(answer: Result<Verdict, Refusal>) -> u64
     requires { CheckFits answer }
     ensures { result ≡ check_number answer }
 {
     match answer {
-        CheckAnswer::Accepted => 0,
-        CheckAnswer::WrongOverlap(k) => where_wrong(1, k),
-        CheckAnswer::WrongByte(place) => where_wrong(2, place),
-        CheckAnswer::Refused(r) => refused_at(r.number, r.place),
+        Ok(Verdict::Accepted) => 0,
+        Ok(Verdict::WrongOverlap(k)) => where_wrong(1, k),
+        Ok(Verdict::WrongByte(place)) => where_wrong(2, place),
+        Err(r) => refused_at(r),
     }
 }

@@ -30,28 +30,15 @@ fn printable(x: u8) -> u8 {
 
 // Prints all of an output.
 pub fn show_output(rt: &impl Print, out: &mut [u8]) -> io::Result<()> {
-    let mut i: usize = 0;
-    while i < out.len() {
-        out[i] = printable(out[i]);
-        i += 1;
+    for x in out.iter_mut() {
+        *x = printable(*x);
     }
     quoted(rt, out)
 }
 
-fn all_zeros(area: &[u8]) -> bool {
-    let mut i: usize = 0;
-    while i < area.len() {
-        if area[i] != b'\0' {
-            return false;
-        }
-        i += 1;
-    }
-    true
-}
-
 // Tells whether a scratch is all zeros.
 pub fn show_scratch(rt: &impl Print, scratch: &[u8]) -> io::Result<()> {
-    if all_zeros(scratch) {
+    if scratch.iter().all(|x| *x == 0) {
         return text(rt, b", scratch all zeros");
     }
     text(rt, b", scratch NOT all zeros")
@@ -63,7 +50,7 @@ fn show_answer(rt: &impl Print, answer: DrawAnswer) -> io::Result<()> {
             named(rt, b"width ", width)?;
             counted(rt, counts.stood_in, counts.nothing_drawn)
         }
-        DrawAnswer::Refused(r) => refused(rt, r.number, r.place),
+        DrawAnswer::Refused(r) => refused(rt, r),
     }
 }
 

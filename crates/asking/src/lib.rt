@@ -7,7 +7,6 @@ pub mod printing;
 ghost use Rattle.std.specs.Counts.{IsPrefixLen};
 ghost use Rattle.std.specs.Io.{ReadsAtMost};
 
-use lines::numbers::CodeNumber;
 use lines::{numbers, words};
 use std::io::{ErrorKind, Read};
 use std::rt::Files;
@@ -67,10 +66,7 @@ pub fn load(files: &impl Files, name: &[u8], buffer: &mut [u8]) -> usize
 
 // The first 64 bytes of a request.
 pub fn shortened(line: &[u8]) -> &[u8] {
-    if 64 < line.len() {
-        return &line[..64];
-    }
-    line
+    &line[..line.len().min(64)]
 }
 
 // The first word of a request.
@@ -78,10 +74,8 @@ pub fn word_of(line: &[u8]) -> &[u8] {
     let w = words::first_word(line);
     let a = w.start;
     let e = w.end;
-    if a <= e {
-        if e <= line.len() {
-            return &line[a..e];
-        }
+    if a <= e && e <= line.len() {
+        return &line[a..e];
     }
     &line[..0]
 }
@@ -98,10 +92,7 @@ pub fn behind(line: &[u8]) -> &[u8] {
 
 // The code that a word names; a word that names none asks for code 0.
 pub fn code_of(word: &[u8]) -> Code {
-    match numbers::code_number(word) {
-        CodeNumber::Named(c) => c,
-        CodeNumber::NotCode => Code(0),
-    }
+    numbers::code_number(word).unwrap_or(Code(0))
 }
 
 // The row number that a word names, as far as it is one.

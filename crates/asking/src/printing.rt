@@ -1,4 +1,5 @@
 // Texts and numbers on standard output.
+use ground::refusals::Refusal;
 use std::io;
 
 pub fn text(rt: &impl Print, t: &[u8]) -> io::Result<()> {
@@ -44,7 +45,7 @@ pub fn signed_named(rt: &impl Print, name: &[u8], z: i32) -> io::Result<()> {
     signed(rt, z)
 }
 
-pub fn refused(rt: &impl Print, number: usize, place: usize) -> io::Result<()> {
-    named(rt, b"refused ", number)?;
-    named(rt, b" at ", place)
+pub fn refused(rt: &impl Print, r: Refusal) -> io::Result<()> {
+    named(rt, b"refused ", r.reason.number())?;
+    named(rt, b" at ", r.place)
 }

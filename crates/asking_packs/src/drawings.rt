@@ -111,8 +111,8 @@ pub fn show_by_pack(rt: &(impl Files + Print), pack: &[u8], words: &[u8]) -> io:
         m,
         &buffer[..n],
         past_byte(behind(fifth)),
-        ground::smaller(row_of(word_of(fourth)), MOST_SCRATCH),
-        ground::smaller(row_of(word_of(fifth)), MOST_ROOM),
+        row_of(word_of(fourth)).min(MOST_SCRATCH),
+        row_of(word_of(fifth)).min(MOST_ROOM),
     )
 }
 
@@ -122,7 +122,7 @@ pub fn show_by_font(rt: &(impl Files + Print), font: &[u8], words: &[u8]) -> io:
     let n = load(rt, word_of(words), &mut buffer);
     let second = behind(words);
     let third = behind(second);
-    let size = ground::smaller(row_of(word_of(second)), MOST_SCRATCH);
-    let room = ground::smaller(row_of(word_of(third)), MOST_ROOM);
+    let size = row_of(word_of(second)).min(MOST_SCRATCH);
+    let room = row_of(word_of(third)).min(MOST_ROOM);
     by_font(rt, font, &buffer[..n], past_byte(behind(third)), size, room)
 }

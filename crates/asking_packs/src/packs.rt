@@ -2,11 +2,11 @@
 use crate::drawings::show_by_pack;
 use asking::printing::{named, quoted, refused, text};
 use asking::{behind, code_of, past_byte, row_of, word_of};
-use lines::words::{digit, starts_with};
+use ground::refusals::Refusal;
+use lines::words::digit;
 use std::io;
 use std::rt::Files;
 use subchars::Code;
-use wattleslate::{EditAnswer, FindAnswer, PackAnswer};
 
 // The value of the hex digit at a place.
 fn digit_at(t: &[u8], i: usize) -> u8 {
@@ -72,10 +72,8 @@ fn used_length(pack: &[u8]) -> usize {
 }
 
 fn show_bytes(rt: &impl Print, pack: &[u8], n: usize) -> io::Result<()> {
-    let mut i: usize = 0;
-    while i < n {
+    for i in 0..n {
         byte_at(rt, pack, i)?;
-        i += 1;
     }
     Ok(())
 }
@@ -89,31 +87,31 @@ fn show_pack(rt: &impl Print, pack: &[u8]) -> io::Result<()> {
 
 fn show_check(rt: &impl Print, pack: &[u8]) -> io::Result<()> {
     match wattleslate::pack_check(pack) {
-        PackAnswer::Accepted { height, live } => {
-            named(rt, b"height ", height)?;
-            named(rt, b", live ", live)
+        Ok(accepted) => {
+            named(rt, b"height ", accepted.height)?;
+            named(rt, b", live ", accepted.live)
         }
-        PackAnswer::Refused(r) => refused(rt, r.number, r.place),
+        Err(r) => refused(rt, r),
     }
 }
 
 // Where a letter is, its width and its rows.
 fn show_letter(rt: &impl Print, pack: &[u8], code: Code) -> io::Result<()> {
     match wattleslate::pack_find(pack, code) {
-        FindAnswer::Found { place, width } => {
-            named(rt, b"at ", place)?;
-            named(rt, b", width ", width)?;
+        Ok(found) => {
+            named(rt, b"at ", found.place)?;
+            named(rt, b", width ", found.width)?;
         }
-        FindAnswer::Refused(r) => refused(rt, r.number, r.place)?,
+        Err(r) => refused(rt, r)?,
     }
     quoted(rt, wattleslate::pack_rows(pack, code))
 }
 
 // What came of a change.
-fn show_change(rt: &impl Print, answer: EditAnswer, pack: &[u8]) -> io::Result<()> {
+fn show_change(rt: &impl Print, answer: Result<(), Refusal>, pack: &[u8]) -> io::Result<()> {
     match answer {
-        EditAnswer::Done => text(rt, b"done")?,
-        EditAnswer::Refused(r) => refused(rt, r.number, r.place)?,
+        Ok(()) => text(rt, b"done")?,
+        Err(r) => refused(rt, r)?,
     }
     show_pack(rt, pack)
 }
@@ -150,13 +148,13 @@ fn write(rt: &impl Print, t: &[u8], pack: &mut [u8]) -> io::Result<()> {
 
 // A step that may change the pack.
 fn change(rt: &impl Print, name: &[u8], words: &[u8], pack: &mut [u8]) -> io::Result<()> {
-    if starts_with(name, b"write") {
+    if name.starts_with(b"write") {
         return write(rt, words, pack);
     }
-    if starts_with(name, b"put") {
+    if name.starts_with(b"put") {
         return put(rt, words, pack);
     }
-    if starts_with(name, b"remove") {
+    if name.starts_with(b"remove") {
         return remove(rt, words, pack);
     }
     compact(rt, pack)
@@ -166,13 +164,13 @@ fn change(rt: &impl Print, name: &[u8], words: &[u8], pack: &mut [u8]) -> io::Re
 pub fn show_step(rt: &(impl Files + Print), words: &[u8], pack: &mut [u8]) -> io::Result<()> {
     let name = word_of(words);
     let rest = behind(words);
-    if starts_with(name, b"check") {
+    if name.starts_with(b"check") {
         return show_check(rt, pack);
     }
-    if starts_with(name, b"find") {
+    if name.starts_with(b"find") {
         return show_letter(rt, pack, code_of(word_of(rest)));
     }
-    if starts_with(name, b"draw") {
+    if name.starts_with(b"draw") {
         return show_by_pack(rt, pack, rest);
     }
     change(rt, name, rest, pack)

@@ -14,11 +14,7 @@ pub fn copy_part(out: &mut [u8], at: usize, s: &[u8], from: usize, n: usize)
     ensures out_after { take (at + n) out.new ≡ take at out.old ++ values (from_on s.now from) n }
     ensures stored { Stored (from_on s.now from) at n out.old out.new }
 {
-    let mut k: usize = 0;
-    while k < n {
-        out[at + k] = s[from + k];
-        k += 1;
-    }
+    out[at..at + n].copy_from_slice(&s[from..from + n]);
 }
 
 // Where the rows of a block of width w start.
@@ -27,12 +23,8 @@ pub fn row_starts(w: usize, h: usize) -> [usize; limits::MAX_HEIGHT]
     ensures { RowAfterRow w h result }
 {
     let mut starts = [0usize; limits::MAX_HEIGHT];
-    let mut r: usize = 0;
-    let mut at: usize = 0;
-    while r < h {
-        starts[r] = at;
-        at += w;
-        r += 1;
+    for r in 0..h {
+        starts[r] = r * w;
     }
     starts
 }

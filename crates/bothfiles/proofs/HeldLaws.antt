@@ -5,10 +5,10 @@ use mathlib.Core.List.{List}
 use Prim.Native.Nat.{ℕ}
 use lib.IntN.{ℤ}
 use Rattle.font.specs.Font as font
-use Rattle.reader.specs.declared.FontAnswer.{FontAnswer}
-use Rattle.reader.specs.declared.FontAnswer.TheVariants as step
-use Rattle.flc.specs.declared.ControlAnswer.{ControlAnswer}
-use Rattle.flc.specs.declared.ControlAnswer.TheVariants as answer
+use Rattle.std.specs.Prelude.{Result, Ok, Err}
+use Rattle.ground.specs.declared.refusals.Refusal.{Refusal}
+use Rattle.reader.specs.declared.FontRead.{FontRead}
+use Rattle.flc.specs.declared.ControlRead.{ControlRead}
 use Rattle.flc.specs.Control as flc
 use Rattle.mapping.specs.Passing.{ControlHeldBy}
 use Rattle.fontlists.specs.Held.{FontHeldBy}
@@ -24,9 +24,9 @@ module _ (s c : List ℕ) (codes : List ℤ) (starts widths places stages : List
   pub held_as : (f g : Files) → f ≡ g → Held f → Held g
   held_as f g e h = subst Held e h
 
-  pub files_held : (f : FontAnswer) (a : ControlAnswer) → FontHeldBy s f codes starts widths places → ControlHeldBy c a stages firsts lasts news → Held (files_of f a)
+  pub files_held : (f : Result FontRead Refusal) (a : Result ControlRead Refusal) → FontHeldBy s f codes starts widths places → ControlHeldBy c a stages firsts lasts news → Held (files_of f a)
   unfolding lined_of
-  files_held (step.Read h n) (answer.Read m k) x y = (x, y)
-  files_held (step.Read h n) (answer.Refused q) x y =
-      λ text. ap (λ (z : font.FontReading). lined_by s z (flc.control c) text) x.said ∙ ap (λ (z : flc.ControlReading). lined_by s (font.says h x.characters) z text) y
-  files_held (step.Refused q) a x y = λ text. ap (λ (z : font.FontReading). lined_by s z (flc.control c) text) x
+  files_held (Ok font-read) (Ok control-read) x y = (x, y)
+  files_held (Ok font-read) (Err q) x y =
+      λ text. ap (λ (z : font.FontReading). lined_by s z (flc.control c) text) x.said ∙ ap (λ (z : flc.ControlReading). lined_by s (font.says font-read.header x.characters) z text) y
+  files_held (Err q) a x y = λ text. ap (λ (z : font.FontReading). lined_by s z (flc.control c) text) x

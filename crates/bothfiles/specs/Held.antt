@@ -1,10 +1,9 @@
 -- What was read once for many texts: the lists hold what the font and the control file mean.
 -- Assumes nothing.
-use Rattle.std.specs.Prelude.{◌≡◌, ℕ, List, ℤ}
-use Rattle.reader.specs.declared.FontAnswer.{FontAnswer}
-use Rattle.reader.specs.declared.FontAnswer.TheVariants as step
-use Rattle.flc.specs.declared.ControlAnswer.{ControlAnswer}
-use Rattle.flc.specs.declared.ControlAnswer.TheVariants as answer
+use Rattle.std.specs.Prelude.{◌≡◌, ℕ, List, ℤ, Result, Ok, Err}
+use Rattle.ground.specs.declared.refusals.Refusal.{Refusal}
+use Rattle.reader.specs.declared.FontRead.{FontRead}
+use Rattle.flc.specs.declared.ControlRead.{ControlRead}
 use Rattle.mapping.specs.Passing.{ControlHeld}
 use Rattle.fontlists.specs.Held.{FontHeld}
 use Rattle.bothfiles.specs.declared.Files.{Files}
@@ -12,10 +11,10 @@ use Rattle.bothfiles.specs.declared.Files.TheVariants.{Read, Refused}
 use Rattle.drawing.specs.Drawing.{unlined, lined_of}
 
 -- "The font's, the control file's": what both answers come to.
-abbrev pub files_of : FontAnswer → ControlAnswer → Files
-files_of (step.Read h n) (answer.Read m stages) = Read h n m
-files_of (step.Read h n) (answer.Refused r) = Refused r
-files_of (step.Refused r) control = Refused r
+abbrev pub files_of : Result FontRead Refusal → Result ControlRead Refusal → Files
+files_of (Ok font) (Ok control) = Read font.header font.count control.commands
+files_of (Ok font) (Err r) = Refused r
+files_of (Err r) control = Refused r
 
 -- Both files, or the refusal that every text then has.
 abbrev pub FilesHeld : List ℕ → List ℕ → Files → List ℤ → List ℕ → List ℕ → List ℕ → List ℕ → List ℤ → List ℤ → List ℤ → Type 0

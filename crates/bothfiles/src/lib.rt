@@ -10,10 +10,10 @@ ghost use Rattle.drawing.specs.Drawing.{lined_of, PutOut};
 ghost use Rattle.bothfiles.specs.Held.{files_of, FilesHeld};
 
 use drawing::DrawAnswer;
-use flc::ControlAnswer;
+use flc::ControlRead;
 use ground::refusals::Refusal;
 use header::Header;
-use reader::FontAnswer;
+use reader::FontRead;
 use source::Origin;
 
 // What reading both files gave: the font's header and how many characters and commands the lists hold; or the refusal of one of the files.
@@ -28,22 +28,17 @@ pub enum Files {
 }
 
 // Both answers as one; the font's refusal comes first.
-fn files_of(font: FontAnswer, control: ControlAnswer) -> Files
+fn files_of(font: Result<FontRead, Refusal>, control: Result<ControlRead, Refusal>) -> Files
     ensures { result ≡ files_of font control }
 {
-    match font {
-        FontAnswer::Read { header, count } => match control {
-            ControlAnswer::Read {
-                commands,
-                stages: _,
-            } => Files::Read {
-                header,
-                count,
-                commands,
-            },
-            ControlAnswer::Refused(r) => Files::Refused(r),
+    match (font, control) {
+        (Ok(font), Ok(control)) => Files::Read {
+            header: font.header,
+            count: font.count,
+            commands: control.commands,
         },
-        FontAnswer::Refused(r) => Files::Refused(r),
+        (Ok(_), Err(r)) => Files::Refused(r),
+        (Err(r), _) => Files::Refused(r),
     }
 }
 

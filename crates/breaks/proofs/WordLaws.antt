@@ -1,18 +1,18 @@
 -- Words by their places.
 -- Assumes nothing.
 use mathlib.Core.Path.{◌≡◌, refl, sym, ◌∙◌, ap}
-use mathlib.Core.Bool.{Bool, true, false, not, ◌||◌}
-use mathlib.Core.List.{List}
+use mathlib.Core.Bool.{Bool, true, false, cond, not, ◌||◌}
+use mathlib.Core.List.{List, [], ◌∷◌}
 use Prim.Native.Nat.{ℕ, suc, ◌+◌, ◌-◌, ◌≤◌, ◌<◌}
 use native.Mathlib.Omega.{arith}
 use native.Mathlib.Decide.{dec_lt}
-use native.Mathlib.Nat.{add-zero}
 use lib.Dec.{eqb}
-use lib.ListN.{length, drop, get_or, length-drop}
-use lib.Seq.{get_or-drop, drop-drop}
+use lib.ListN.{length, drop, get_or, take, length-drop}
+use Rattle.std.specs.List.{prefix_len, take_while}
+use lib.Seq.{get_or-drop}
 use borrow.Author.Tests.{eq-eqb, ne_eqb, eqb-true, not-true, not-false}
 use Rattle.ground.specs.Runs.{run}
-use Rattle.ground.proofs.Runs.{run_le, counted_none, counted-more, counted_stop, counted-end}
+use Rattle.ground.proofs.Runs.{rest-is, run_le}
 use Rattle.ground.proofs.Tests.{and_both, and_left, and_right, or_left, or_right, or_elim, never_both}
 use Rattle.breaks.specs.Words.{is_break, in_word, word_from, word_behind, ends_word}
 use Rattle.breaks.specs.Breaking.{largest}
@@ -31,22 +31,6 @@ module _ (s : List ℕ) where
 
   pub run-behind : (p : ℕ → Bool) (b : ℕ) → b + run p (drop b s) < length s → p (get_or s (b + run p (drop b s)) 0) ≡ false
   run-behind p b h = ap p (sym (get_or-drop b s (run p (drop b s)) 0)) ∙ run_end p (drop b s) (omega (arith, length-drop b s))
-
-  -- a loop over the bytes of a run
-  module _ (p : ℕ → Bool) (b : ℕ) where
-    at_first : get_or (drop b s) 0 0 ≡ get_or s b 0
-    at_first = get_or-drop b s 0 0 ∙ ap (λ (i : ℕ). get_or s i 0) (add-zero b)
-
-    pub run_next : b < length s → p (get_or s b 0) ≡ true → b + run p (drop b s) ≡ b + 1 + run p (drop (b + 1) s)
-    run_next h e =
-        let c = counted-more p (drop b s) 0 (omega (arith, length-drop b s)) (ap p at_first ∙ e) (counted_none p (drop b s)) in
-        omega (arith, c.1, ap (run p) (drop-drop 1 b s))
-
-    pub run_here : b < length s → p (get_or s b 0) ≡ false → b ≡ b + run p (drop b s)
-    run_here h e = omega (arith, counted_stop p (drop b s) 0 (omega (arith, length-drop b s)) (ap p at_first ∙ e) (counted_none p (drop b s)))
-
-    pub run_over : length s ≤ b → b ≡ b + run p (drop b s)
-    run_over h = omega (arith, counted-end p (drop b s) 0 (omega (arith, length-drop b s)) (counted_none p (drop b s)))
 
   -- a byte that passes is in the run
   pub run-one : (p : ℕ → Bool) (b : ℕ) → b < length s → p (get_or s b 0) ≡ true → b < b + run p (drop b s)
@@ -96,19 +80,19 @@ module _ (s : List ℕ) where
           (λ q. outside l (eqb-true e (length s) q))
           (λ q. never_both (is_break (get_or s e 0)) q (not-true _ (run-place in_word b e (omega arith) l)))
 
--- how a word's end is tested
-module _ (s : List ℕ) (e : ℕ) where
-  pub behind-blank : get_or s (e - 1) 0 ≡ 32 → false ≡ ends_word s e
-  unfolding ends_word
-  behind-blank p = rw (eq-eqb _ _ p)
+-- the bytes that are taken while they pass are a run
+pub taken_run : (p : ℕ → Bool) (t : List ℕ) → length (take (prefix_len p t) t) ≡ run p t
+unfolding run
+taken_run p [] = refl
+taken_run p (x ∷ xs) = go (p x) (taken_run p xs)
+  where
+    go : (b : Bool) → length (take (prefix_len p xs) xs) ≡ run p xs → length (take (cond b (1 + prefix_len p xs) 0) (x ∷ xs)) ≡ cond b (suc (run p xs)) 0
+    go true e = let z : 1 + prefix_len p xs ≡ suc (prefix_len p xs) = omega arith in ap (λ (n : ℕ). length (take n (x ∷ xs))) z ∙ ap suc e
+    go false e = refl
 
-  pub before-byte : (get_or s (e - 1) 0 ≡ 32 → ⊥) → e < length s → eqb (get_or s e 0) 32 ≡ ends_word s e
-  unfolding ends_word
-  before-byte p l = rw (ne_eqb (get_or s (e - 1) 0) 32 p, ne_eqb e (length s) (λ z. omega arith))
-
-  pub at-end : (get_or s (e - 1) 0 ≡ 32 → ⊥) → e ≤ length s → length s ≤ e → true ≡ ends_word s e
-  unfolding ends_word
-  at-end p l m = rw (ne_eqb (get_or s (e - 1) 0) 32 p, eq-eqb e (length s) (omega arith))
+-- the blanks that stand behind place p, as they are counted
+pub blanks_from : (s : List ℕ) (p n : ℕ) → n ≡ length (take_while (λ b. eqb b 32) (take (length s - p) (drop p s))) → n ≡ run is_break (drop p s)
+blanks_from s p n e = e ∙ ap (λ (t : List ℕ). length (take_while is_break t)) (rest-is s p) ∙ taken_run is_break (drop p s)
 
 -- where the last word ends
 module _ (s : List ℕ) where

@@ -7,6 +7,7 @@ use native.Mathlib.Omega.{arith}
 use native.Mathlib.Nat.{mul-le-mul_right}
 use lib.ListN.{length}
 use Rattle.ground.specs.Limits.{max_text, max_line_width, max_height}
+use Rattle.ground.specs.Refusals.{number_of, area_too_small, text_too_long, line_too_wide, wrong_length}
 use Rattle.ground.specs.declared.refusals.Refusal.{Refusal}
 use Rattle.subchars.specs.declared.Code.{Code}
 use Rattle.showing.proofs.Showing.{length-shown}
@@ -14,8 +15,9 @@ use Rattle.font.proofs.ReadingLaws.{font_read}
 use Rattle.source.specs.Source.{Choice, found, stood_in, nothing, Source, font_source}
 use Rattle.drawing.specs.Drawing.{text_codes, with_choice, characters_of, mode_of, trace_of}
 use Rattle.drawing.proofs.DrawingLaws.{as_many}
-use Rattle.checking.specs.declared.CheckAnswer.{CheckAnswer}
-use Rattle.checking.specs.declared.CheckAnswer.TheVariants.{Accepted, WrongOverlap, WrongByte, Refused}
+use Rattle.std.specs.Prelude.{Result, Ok, Err}
+use Rattle.checking.specs.declared.Verdict.{Verdict}
+use Rattle.checking.specs.declared.Verdict.TheVariants.{Accepted, WrongOverlap, WrongByte}
 use Rattle.checking.specs.Verdict.{verdict}
 use Rattle.checking.proofs.DifferenceLaws.{within}
 use Rattle.checking.proofs.VerdictLaws.{overlap_exactly, byte_exactly, refused_exactly}
@@ -23,7 +25,7 @@ use Rattle.checking.proofs.TraceLaws.{one_less}
 use Rattle.drawingcheck.specs.CheckDrawing.{drawing_checked}
 use Rattle.drawingcheck.proofs.Answers as check
 use Rattle.answers.specs.Fits.{RefusalFits, CheckFits}
-use Rattle.capi.proofs.Bounds.{table_fits, font_fits, control-fits}
+use Rattle.capi.proofs.Bounds.{known, font_fits, control-fits}
 
 -- A text draws no more characters than it has codes.
 few-characters : (source : Source) (cs : List Code) → length (characters_of source cs) ≤ length cs
@@ -47,21 +49,21 @@ module _ (size : ℕ) (s control text overlaps figure : List ℕ) where
         let h = (font_read s x.header x.characters x.font_read).high.1 in
         omega (arith, length-shown x.header.hardblank.0 x.header.height (check.line_by size s control text x), mul-le-mul_right ((check.line_by size s control text x).width + 1) h, narrow)
 
-    judged_fits : (a : CheckAnswer) → verdict (check.right_by size s control text x) (check.drawing_by size s control text x) overlaps figure ≡ a → CheckFits a
-    judged_fits Accepted e = tt
-    judged_fits (WrongOverlap k) e = let w = (overlap_exactly _ _ overlaps figure k).0 e in omega (arith, w.inside, w.size, few_right)
-    judged_fits (WrongByte p) e = let w = (byte_exactly _ _ overlaps figure p).0 e in omega (arith, (within p _ _ w.1.here).0, few_bytes)
-    judged_fits (Refused r) e =
+    judged_fits : (a : Result Verdict Refusal) → verdict (check.right_by size s control text x) (check.drawing_by size s control text x) overlaps figure ≡ a → CheckFits a
+    judged_fits (Ok Accepted) e = tt
+    judged_fits (Ok (WrongOverlap k)) e = let w = (overlap_exactly _ _ overlaps figure k).0 e in omega (arith, w.inside, w.size, few_right)
+    judged_fits (Ok (WrongByte p)) e = let w = (byte_exactly _ _ overlaps figure p).0 e in omega (arith, (within p _ _ w.1.here).0, few_bytes)
+    judged_fits (Err r) e =
         let w = (refused_exactly _ _ overlaps figure r).0 e in
-        subst (λ (q : Refusal). RefusalFits q.number q.place) (sym w.0) (table_fits _ _ (omega arith) (omega arith) (omega arith))
+        subst (λ (q : Refusal). RefusalFits (number_of q.reason) q.place) (sym w.0) (known wrong_length)
 
   pub check_fits : CheckFits (drawing_checked size s control text overlaps figure)
   check_fits = go _ (check.one_of size s control text overlaps figure)
     where
-      go : (a : CheckAnswer) → check.ChecksTo size s control text overlaps figure a → CheckFits a
-      go _ (check.scratch_small u) = table_fits _ _ (omega arith) (omega arith) (omega arith)
+      go : (a : Result Verdict Refusal) → check.ChecksTo size s control text overlaps figure a → CheckFits a
+      go _ (check.scratch_small u) = known area_too_small
       go _ (check.font_refused u r p) = font_fits s r p
       go _ (check.control-refused u h es p r c) = control-fits control r c
-      go _ (check.text_too_long_lem u h es p cs k c l) = table_fits _ _ (omega arith) (omega arith) (omega arith)
-      go _ (check.line_too_wide_lem x l) = table_fits _ _ (omega arith) (omega arith) (omega arith)
+      go _ (check.text_too_long_lem u h es p cs k c l) = known text_too_long
+      go _ (check.line_too_wide_lem x l) = known line_too_wide
       go _ (check.judged x l) = judged_fits x l _ refl

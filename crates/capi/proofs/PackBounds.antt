@@ -3,7 +3,7 @@
 use mathlib.Core.Path.{◌≡◌, refl}
 use mathlib.Core.Bool.{Bool, true, false, cond}
 use mathlib.Core.List.{List, ◌++◌}
-use Prim.Native.Nat.{ℕ, ◌+◌, ◌*◌, ◌≤◌, ◌<◌}
+use Prim.Native.Nat.{ℕ, ◌+◌, ◌*◌, ◌≤◌}
 use native.Mathlib.Omega.{arith}
 use native.Mathlib.Nat.{mul-le-mul_right}
 use lib.Dec.{eqb, ltb}
@@ -16,11 +16,10 @@ use Rattle.subchars.specs.declared.Direction.{Direction}
 use Rattle.subchars.specs.declared.Layout.{Layout}
 use Rattle.subchars.specs.declared.Mode.{Mode}
 use Rattle.join.specs.Shape.{good_layout}
-use Rattle.showing.specs.declared.PutAnswer.TheVariants as put
+use Rattle.std.specs.Prelude.{Option, Some, None, Ok, Err}
 use Rattle.showing.specs.Output.{output_of}
 use Rattle.records.specs.declared.Head.{Head}
 use Rattle.records.specs.declared.Place.{Place}
-use Rattle.records.specs.declared.Place.TheVariants.{At, Nowhere}
 use Rattle.records.specs.Versions.{head_length}
 use Rattle.records.specs.Records.{minus_one, is_live, has_live, live_count}
 use Rattle.records.specs.Places.{place_in}
@@ -31,7 +30,6 @@ use Rattle.edits.proofs.ReadBack.{Wholes, none, more}
 use Rattle.heads.specs.Pack.{Pack, says, damaged, meaning}
 use Rattle.heads.proofs.FindLaws.{some, low, short, place_in_lem}
 use Rattle.heads.proofs.OpenLaws.{opens_of, pack_wholes, pack_fits}
-use Rattle.pack.specs.declared.Located.TheVariants as located
 use Rattle.pack.specs.Calls.{check_told, located_at, located_in, found_at, find_told, changed, refused, tells, good_letter, has_room, insertion, removal, compaction}
 use Rattle.flc.specs.Control as flc
 use Rattle.source.specs.Source.{Source, pack_source}
@@ -40,13 +38,8 @@ use Rattle.source.proofs.CountLaws.{few_replaced}
 use Rattle.drawing.specs.Drawing.{text_codes, line_of, draws, refuses, unlined, lined_read, lined_from, with_counts, lined_answer}
 use Rattle.drawing.proofs.DrawingLaws.{as_many}
 use Rattle.packdrawing.specs.PackDrawing.{pack_mode, pack_by, pack_of, pack_lined}
-use Rattle.answers.specs.Numbers.{value_bound}
-use Rattle.answers.specs.Fits.{RefusalFits, DrawFits, PackFits, FindFits, EditFits}
-use Rattle.capi.proofs.Bounds.{table_fits, control-fits}
-
--- A number of the table at place 0.
-pub known : (n : ℕ) → 1 ≤ n → n < value_bound → RefusalFits n 0
-known n l m = table_fits n 0 l m (omega arith)
+use Rattle.answers.specs.Fits.{DrawFits, PackFits, FindFits, EditFits}
+use Rattle.capi.proofs.Bounds.{known, control-fits}
 
 -- A pack has fewer live records than bytes.
 few-live : (f : Head) {rs : List (List ℕ)} → Wholes f rs → live_count rs ≤ length (joined rs)
@@ -67,53 +60,53 @@ pack_answer_fits s = go (meaning s) refl
     go (says f rs) m =
         let o = opens_of s f rs m in
         record { a_in_16 = omega arith; b_in_16 = omega (arith, low s f rs m); c_in_16 = omega (arith, few-live f (pack_wholes s f rs o), pack_fits s f rs o, short s f rs m, head_length_low f.version) }
-    go damaged m = known damaged_pack (omega arith) (omega arith)
+    go damaged m = known damaged_pack
 
 -- What find answers.
 pub find_fits : (s : List ℕ) (code : ℕ) → FindFits (find_told (meaning s) code)
 unfolding find_told located_in
 find_fits s code = go (meaning s) refl
   where
-    at_place : (f : Head) (rs : List (List ℕ)) → meaning s ≡ says f rs → (x : Place) → x ≡ place_in f code (head_length f.version) rs → FindFits (found_at (located_at f x))
-    at_place f rs m (At p w) q =
-        let i = place_in_lem s f rs m code p w q in
-        let t = mul-le-mul_right {m = 1} {n = f.height} w (some s f rs m) in
+    at_place : (f : Head) (rs : List (List ℕ)) → meaning s ≡ says f rs → (x : Option Place) → x ≡ place_in f code (head_length f.version) rs → FindFits (found_at (located_at f x))
+    at_place f rs m (Some x) q =
+        let i = place_in_lem s f rs m code x q in
+        let t = mul-le-mul_right {m = 1} {n = f.height} x.width (some s f rs m) in
         record { place_in_32 = omega (arith, i, short s f rs m); width_in_16 = omega (arith, i, t, short s f rs m) }
-    at_place f rs m Nowhere q = known code_absent (omega arith) (omega arith)
+    at_place f rs m None q = known code_absent
 
-    tested : (f : Head) (rs : List (List ℕ)) → meaning s ≡ says f rs → (b : Bool) → FindFits (found_at (cond b (located.Refused (refusal bad_shape 0)) (located_at f (place_in f code (head_length f.version) rs))))
-    tested f rs m true = known bad_shape (omega arith) (omega arith)
+    tested : (f : Head) (rs : List (List ℕ)) → meaning s ≡ says f rs → (b : Bool) → FindFits (found_at (cond b (Err (refusal bad_shape 0)) (located_at f (place_in f code (head_length f.version) rs))))
+    tested f rs m true = known bad_shape
     tested f rs m false = at_place f rs m (place_in f code (head_length f.version) rs) refl
 
     go : (p : Pack) → meaning s ≡ p → FindFits (found_at (located_in p code))
     go (says f rs) m = tested f rs m (eqb code minus_one)
-    go damaged m = known damaged_pack (omega arith) (omega arith)
+    go damaged m = known damaged_pack
 
 -- What a change answers.
 pub put_fits : (p : Pack) (size code width : ℕ) (rows : List ℕ) → EditFits (tells (insertion p size code width rows))
 unfolding insertion
-put_fits damaged size code width rows = known damaged_pack (omega arith) (omega arith)
+put_fits damaged size code width rows = known damaged_pack
 put_fits (says f rs) size code width rows = go _ (good_letter f code width rows) (has_live code rs) (has_room f size width rs)
   where
     go : (xs : List (List ℕ)) (a b c : Bool) → EditFits (tells (cond a (cond b (refused code_present) (cond c (changed xs) (refused no_room))) (refused bad_shape)))
-    go xs true true c = known code_present (omega arith) (omega arith)
+    go xs true true c = known code_present
     go xs true false true = tt
-    go xs true false false = known no_room (omega arith) (omega arith)
-    go xs false b c = known bad_shape (omega arith) (omega arith)
+    go xs true false false = known no_room
+    go xs false b c = known bad_shape
 
 pub remove_fits : (p : Pack) (code : ℕ) → EditFits (tells (removal p code))
 unfolding removal
-remove_fits damaged code = known damaged_pack (omega arith) (omega arith)
+remove_fits damaged code = known damaged_pack
 remove_fits (says f rs) code = go _ (eqb code minus_one) (has_live code rs)
   where
     go : (xs : List (List ℕ)) (a b : Bool) → EditFits (tells (cond a (refused bad_shape) (cond b (changed xs) (refused code_absent))))
-    go xs true b = known bad_shape (omega arith) (omega arith)
+    go xs true b = known bad_shape
     go xs false true = tt
-    go xs false false = known code_absent (omega arith) (omega arith)
+    go xs false false = known code_absent
 
 pub compact_fits : (p : Pack) → EditFits (tells (compaction p))
 unfolding compaction
-compact_fits damaged = known damaged_pack (omega arith) (omega arith)
+compact_fits damaged = known damaged_pack
 compact_fits (says f rs) = tt
 
 -- What drawing from a source answers.
@@ -125,9 +118,9 @@ module _ (y : Mode) (h : ℕ) (source : Source) (control text : List ℕ) (room 
       w : ℕ
       w = (line_of y h source codes).width
 
-      go : (a : Bool) → ltb max_line_width (line_of y h source codes).width ≡ a → (b : Bool) → DrawFits (with_counts (counts_of source codes) (cond a (put.Refused (refusal line_too_wide 0)) (cond b (put.Refused (refusal area_too_small 0)) (put.Put (line_of y h source codes).width))))
-      go true e b = known line_too_wide (omega arith) (omega arith)
-      go false e true = known area_too_small (omega arith) (omega arith)
+      go : (a : Bool) → ltb max_line_width (line_of y h source codes).width ≡ a → (b : Bool) → DrawFits (with_counts (counts_of source codes) (cond a (Err (refusal line_too_wide 0)) (cond b (Err (refusal area_too_small 0)) (Ok (line_of y h source codes).width))))
+      go true e b = known line_too_wide
+      go false e true = known area_too_small
       go false e false =
           let few = few_replaced source codes in
           record { a_in_16 = omega (arith, few, l); b_in_16 = omega (arith, few, l); c_in_16 = omega (arith, ltb-false max_line_width (line_of y h source codes).width e) }
@@ -141,7 +134,7 @@ module _ (y : Mode) (h : ℕ) (source : Source) (control text : List ℕ) (room 
       go (flc.reads cs k) e = tested (ltb max_text (length text)) refl
         where
           tested : (b : Bool) → ltb max_text (length text) ≡ b → DrawFits (lined_answer (lined_read y h source (cond b (refuses (refusal text_too_long 0)) (draws (text_codes cs k text)))) room)
-          tested true q = known text_too_long (omega arith) (omega arith)
+          tested true q = known text_too_long
           tested false q = put_fits_in (text_codes cs k text) (omega (arith, as_many cs k text, ltb-false max_text (length text) q))
 
 pub draw_pack_fits : (scratch : ℕ) (s : List ℕ) (layout : Layout) (direction : Direction) (control text : List ℕ) (room : ℕ) → DrawFits (lined_answer (pack_lined scratch s layout direction control text) room)
@@ -150,12 +143,12 @@ draw_pack_fits scratch s layout direction control text room = go (ltb scratch mi
   where
     shaped : (f : Head) (rs : List (List ℕ)) (b : Bool) → DrawFits (lined_answer (cond b (lined_from (pack_mode f layout direction) f.height (pack_source f rs) (flc.control control) text) (unlined (refusal bad_shape 0))) room)
     shaped f rs true = from_fits (pack_mode f layout direction) f.height (pack_source f rs) control text room
-    shaped f rs false = known bad_shape (omega arith) (omega arith)
+    shaped f rs false = known bad_shape
 
     opened : (p : Pack) → DrawFits (lined_answer (pack_by p layout direction (flc.control control) text) room)
-    opened damaged = known damaged_pack (omega arith) (omega arith)
+    opened damaged = known damaged_pack
     opened (says f rs) = shaped f rs (good_layout layout)
 
     go : (b : Bool) → DrawFits (lined_answer (cond b (unlined (refusal area_too_small 0)) (pack_by (meaning s) layout direction (flc.control control) text)) room)
-    go true = known area_too_small (omega arith) (omega arith)
+    go true = known area_too_small
     go false = opened (meaning s)

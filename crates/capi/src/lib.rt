@@ -15,9 +15,10 @@ ghost use Rattle.wattleslate.specs.DrawCall.{draw_told, draw_output};
 ghost use Rattle.twolines.specs.TwoLines.{draw_lines, lines_told, lines_output};
 ghost use Rattle.wrapping.specs.Wrapping.{draw_wrapped, wrap_in, wrap_answer, wrap_firsts, wrap_ends, wrap_output};
 ghost use Rattle.answers.specs.Numbers.{font_number, control_number, draw_number, wrap_number, join_number, stack_number};
-ghost use Rattle.capi.specs.Numbers.{join_taken, join_left, stack_taken, stack_left};
+ghost use Rattle.capi.specs.Numbers.{legal_mode, join_taken, join_left, stack_taken, stack_left};
 
-use ground::{limits, refusals};
+use ground::limits;
+use ground::refusals::{Reason, Refusal};
 use subchars::{Direction, Layout, SubCharacter, VerticalLayout};
 
 // Reads a font, and answers its height and how many characters it has. Refusals 1 to 8.
@@ -61,6 +62,13 @@ pub extern "C" fn wattleslate_draw(
     answers::draw_number(wattleslate::draw(font, control, text, scratch, out))
 }
 
+// Whether two numbers are a Full_Layout and a Print_Direction that a header may have.
+pub(crate) fn legal_mode(layout: usize, direction: usize) -> bool
+    ensures { result ≡ legal_mode layout direction }
+{
+    layout <= limits::MAX_FULL_LAYOUT && direction <= limits::MAX_DIRECTION
+}
+
 // Joins a FIGcharacter to a line, and answers overlap and width: `wattleslate::join`, with the layout as a Full_Layout (0 to 32,767) and the direction
 // as a Print_Direction (0 or 1). Any other number is refused 17.
 #[unsafe(no_mangle)]
@@ -78,12 +86,9 @@ pub extern "C" fn wattleslate_join(
     ensures answer { result ≡ join_number (join_taken layout direction hardblank height line_width line.now character_width character.now (length out.old)) }
     ensures area { out.new ≡ join_left layout direction hardblank height line_width line.now character_width character.now (length out.old) }
 {
-    if !ground::both(
-        layout <= limits::MAX_FULL_LAYOUT,
-        direction <= limits::MAX_DIRECTION,
-    ) {
+    if !legal_mode(layout, direction) {
         ground::zero_from(out, 0);
-        return answers::refused_at(refusals::BAD_SHAPE, 0);
+        return answers::refused_at(Refusal::of(Reason::BadShape));
     }
     answers::join_number(wattleslate::join(
         line,
@@ -117,7 +122,7 @@ pub extern "C" fn wattleslate_stack(
 {
     if limits::MAX_FULL_LAYOUT < layout {
         ground::zero_from(out, 0);
-        return answers::refused_at(refusals::BAD_SHAPE, 0);
+        return answers::refused_at(Refusal::of(Reason::BadShape));
     }
     answers::stack_number(wattleslate::stack(
         upper,

@@ -11,7 +11,7 @@ ghost use Rattle.wattleslate.specs.DrawCall.{draw_tells};
 ghost use Rattle.answers.specs.Numbers.{pack_number, find_number, edit_number, draw_number};
 ghost use Rattle.capi.specs.Numbers.{layout_by};
 
-use ground::limits;
+use crate::legal_mode;
 use subchars::{Code, Direction, Layout, Smushing};
 
 // Tests a pack, and answers its height and how many records are live. Refusal 20.
@@ -61,10 +61,7 @@ pub extern "C" fn wattleslate_pack_compact(pack: &mut [u8]) -> u64
 fn layout_by(layout: usize, direction: usize) -> Layout
     ensures { result ≡ layout_by layout direction }
 {
-    if ground::both(
-        layout <= limits::MAX_FULL_LAYOUT,
-        direction <= limits::MAX_DIRECTION,
-    ) {
+    if legal_mode(layout, direction) {
         return Layout::from_full(layout);
     }
     Layout::Smushing(Smushing::Controlled(0))

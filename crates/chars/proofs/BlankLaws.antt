@@ -3,11 +3,10 @@
 use mathlib.Core.Path.{◌≡◌, refl, sym, ap, ◌∙◌}
 use mathlib.Core.Bool.{Bool, true, false, cond, ◌&&◌, ◌||◌, false≢true}
 use mathlib.Core.List.{List, [], ◌∷◌}
-use Prim.Native.Nat.{ℕ, suc, ◌+◌, ◌≤◌, ◌<◌}
-use lib.ListN.{length, drop, get_or}
+use Prim.Native.Nat.{ℕ, suc}
+use lib.ListN.{drop}
 use Rattle.ground.specs.Runs.{all}
 use Rattle.ground.proofs.Tests.{and_right, and_assoc, or_true, or_false}
-use Rattle.ground.proofs.Runs.{all_more, all_not, all_end}
 use Rattle.ground.specs.Text.{is_lf}
 use Rattle.lines.specs.Lines.{is_cr, is_end, TextLine, line, grown, lines_after, lines_from}
 use Rattle.lines.specs.Words.{is_blank}
@@ -38,22 +37,3 @@ blank_lines_lem cr i (x ∷ xs) = go (cr && is_lf x) refl (is_end x) refl (blank
 pub blank_from_lem : (s : List ℕ) (at : ℕ) → blank_from s at ≡ blank_lines (lines_from s at)
 unfolding blank_from lines_from
 blank_from_lem s at = sym (blank_lines_lem false at (drop at s))
-
--- Byte by byte.
-module _ (s : List ℕ) (i : ℕ) where
-  pub blank-more : i < length s → is_blank (get_or s i 0) ≡ true → blank_from s i ≡ blank_from s (i + 1)
-  unfolding blank_from
-  blank-more h e = all_more is_space s i h (simp e)
-
-  module _ (h : i < length s) (e : is_blank (get_or s i 0) ≡ false) where
-    pub blank-end : is_end (get_or s i 0) ≡ true → blank_from s i ≡ blank_from s (i + 1)
-    unfolding blank_from
-    blank-end f = all_more is_space s i h (simp (e, f))
-
-    pub blank_not : is_end (get_or s i 0) ≡ false → blank_from s i ≡ false
-    unfolding blank_from
-    blank_not f = all_not is_space s i h (simp (e, f))
-
-  pub blank-all : length s ≤ i → blank_from s i ≡ true
-  unfolding blank_from
-  blank-all h = all_end is_space s i h

@@ -1,40 +1,39 @@
 -- Codes: whether two are the same, those of the required characters, and those of tags.
 -- Assumes nothing.
 use mathlib.Core.Path.{◌≡◌, refl, sym, ap, ◌∙◌}
-use mathlib.Core.Bool.{Bool, true, false}
+use mathlib.Core.Bool.{true, false, true≢false}
 use mathlib.Core.List.{List, [], ◌∷◌, ◌++◌}
-use Prim.Native.Nat.{ℕ, zero, suc, ◌+◌, ◌-◌, ◌^◌, ◌≤◌, ◌<◌}
+use Prim.Native.Nat.{ℕ, zero, suc, ◌+◌, ◌-◌, ◌≤◌, ◌<◌}
 use native.Mathlib.Omega.{arith}
-use lib.Dec.{eqb, ltb}
+use lib.Dec.{ltb}
 use lib.IntN.{ℤ, pos, negsuc}
 use lib.ListN.{length, get_or, drop, drop_of_length-le, get_or-append}
 use lib.Seq.{get_or-append-add, drop-cons}
-use mir.Syntax.{w32}
-use mir.Val.{SFits, of_z}
-use borrow.Author.Tests.{eq-eqb, ne_eqb, eqb-true, eqb-false, ltb-true}
+use borrow.Author.Tests.{eq-eqb, eqb-true, ltb-true}
+use Rattle.std.specs.Bool.{one_answer}
+use Rattle.std.specs.Ordering.{int_eq}
+use Rattle.std.specs.Cmp.{signed_Decides}
+use Rattle.std.specs.Prelude.{Option, Some, None}
 use Rattle.ground.specs.Runs.{all}
 use Rattle.ground.proofs.Tests.{and_left, and_right}
 use Rattle.subchars.specs.declared.Code.{Code}
 use Rattle.lines.specs.Words.{first_word}
 use Rattle.lines.specs.Numbers.{code_number}
-use Rattle.lines.specs.declared.numbers.CodeNumber.{CodeNumber}
-use Rattle.lines.specs.declared.numbers.CodeNumber.TheVariants.{Named, NotCode}
-use Rattle.chars.specs.declared.TagStep.TheVariants.{Tag, BadTag}
 use Rattle.chars.specs.Codes.{count, ascii_count, ascii, deutsch, required_codes, required_count, same_number, same_code, no_code, tag_code, tag_of}
 
--- Two bit patterns are the same where the numbers are.
-low_eq : (a b : ℕ) → a < 2147483648 → b < 2147483648 → eqb (2 ^ 32 - suc a) (2 ^ 32 - suc b) ≡ eqb a b
-low_eq a b h k = go (eqb a b) refl
-  where
-    go : (t : Bool) → eqb a b ≡ t → eqb (2 ^ 32 - suc a) (2 ^ 32 - suc b) ≡ t
-    go true e = eq-eqb (2 ^ 32 - suc a) (2 ^ 32 - suc b) (ap (λ (x : ℕ). 2 ^ 32 - suc x) (eqb-true a b e))
-    go false e = ne_eqb (2 ^ 32 - suc a) (2 ^ 32 - suc b) (λ p. eqb-false a b e (omega arith))
+-- The same by the equality that the code compares with.
+same_so : (x y : ℤ) → same_number x y ≡ true → x ≡ y
+same_so (pos a) (pos b) e = ap pos (eqb-true a b e)
+same_so (pos a) (negsuc b) e = absurd (true≢false (sym e))
+same_so (negsuc a) (pos b) e = absurd (true≢false (sym e))
+same_so (negsuc a) (negsuc b) e = ap negsuc (eqb-true a b e)
 
-pub bits_eq : (x y : ℤ) → SFits w32 x → SFits w32 y → eqb (of_z w32 x) (of_z w32 y) ≡ same_number x y
-bits_eq (pos a) (pos b) f g = refl
-bits_eq (pos a) (negsuc b) f g = ne_eqb a (2 ^ 32 - suc b) (λ p. omega (arith, f.sfits, g.sfits))
-bits_eq (negsuc a) (pos b) f g = ne_eqb (2 ^ 32 - suc a) b (λ p. omega (arith, f.sfits, g.sfits))
-bits_eq (negsuc a) (negsuc b) f g = low_eq a b f.sfits g.sfits
+same_self : (x : ℤ) → same_number x x ≡ true
+same_self (pos a) = eq-eqb a a refl
+same_self (negsuc a) = eq-eqb a a refl
+
+pub int_same : (x y : ℤ) → int_eq x y ≡ same_number x y
+int_same x y = one_answer _ _ (signed_Decides x y) (same_so x y, λ p. ap (same_number x) (sym p) ∙ same_self x)
 
 -- The required codes by their places.
 count-length : (k n : ℕ) → length (count k n) ≡ n
@@ -79,16 +78,16 @@ unfolding required_codes count all
 codes_small k = all_small required_codes k refl
 
 -- A tag, by what its first word is.
-module _ (t : List ℕ) (m : CodeNumber) (p : m ≡ code_number (first_word t)) where
+module _ (t : List ℕ) (m : Option Code) (p : m ≡ code_number (first_word t)) where
   tag_is : tag_code m ≡ tag_of t
   unfolding tag_of
   tag_is = ap tag_code p
 
-  pub tag_none : m ≡ NotCode → BadTag ≡ tag_of t
+  pub tag_none : m ≡ None → None ≡ tag_of t
   tag_none e = sym (ap tag_code e) ∙ tag_is
 
-  pub tag_bad : (c : Code) → m ≡ Named c → same_code c no_code ≡ true → BadTag ≡ tag_of t
+  pub tag_bad : (c : Code) → m ≡ Some c → same_code c no_code ≡ true → None ≡ tag_of t
   tag_bad c e q = sym (ap tag_code e ∙ simp q) ∙ tag_is
 
-  pub tag_good : (c : Code) → m ≡ Named c → same_code c no_code ≡ false → Tag c ≡ tag_of t
+  pub tag_good : (c : Code) → m ≡ Some c → same_code c no_code ≡ false → Some c ≡ tag_of t
   tag_good c e q = sym (ap tag_code e ∙ simp q) ∙ tag_is

@@ -5,12 +5,14 @@ use mathlib.Core.List.{List, [], ◌∷◌}
 use Prim.Native.Nat.{ℕ, zero, suc, ◌+◌, ◌≤◌, ◌<◌}
 use native.Mathlib.Omega.{arith}
 use lib.ListN.{length, drop}
+use Rattle.std.specs.Prelude.{Result, Ok, Err}
 use Rattle.ground.specs.Refusals.{refusal, missing_line}
+use Rattle.ground.specs.declared.refusals.Refusal.{Refusal}
 use Rattle.ground.specs.Limits.{max_characters}
 use Rattle.subchars.specs.declared.Code.{Code}
 use Rattle.lines.specs.Lines.{TextLine}
 use Rattle.rows.specs.declared.Format.{Format}
-use Rattle.rows.specs.Rows.{Rows, read, refused, character_rows, line_count}
+use Rattle.rows.specs.Rows.{character_rows, line_count}
 use Rattle.rows.proofs.RowLaws.{AllRead, character_read}
 use Rattle.chars.specs.declared.Entry.{Entry}
 use Rattle.chars.specs.Chars.{Ending, finished, stopped, Listing, ends, listed, character_then, listing}
@@ -47,9 +49,9 @@ character_sound : (f : Format) (size n : ℕ) (c : Code) (ls : List TextLine) (m
 character_sound f size n c [] more h s = nothing f n [] (stopped (refusal missing_line size)) (omega arith)
 character_sound f size n c (l ∷ ls) more h s = go (character_rows f size (l ∷ ls)) refl
   where
-    go : (v : Rows) → character_rows f size (l ∷ ls) ≡ v → SoundListing f n (l ∷ ls) (listed v c l.start more)
-    go (read w) e = record { few = omega (arith, s.few); rows = one (here refl (character_read f size w (l ∷ ls) e)) s.rows }
-    go (refused r) e = nothing f n (l ∷ ls) (stopped r) (omega arith)
+    go : (v : Result ℕ Refusal) → character_rows f size (l ∷ ls) ≡ v → SoundListing f n (l ∷ ls) (listed v c l.start more)
+    go (Ok w) e = record { few = omega (arith, s.few); rows = one (here refl (character_read f size w (l ∷ ls) e)) s.rows }
+    go (Err r) e = nothing f n (l ∷ ls) (stopped r) (omega arith)
 
 pub listing-sound : (f : Format) (size : ℕ) (cs : List ℕ) (n : ℕ) (ls : List TextLine) → n + length cs ≤ max_characters → SoundListing f n ls (listing f size cs n ls)
 listing-sound f size cs n ls h =

@@ -7,17 +7,17 @@ use Prim.Native.Nat.{ℕ, zero, suc}
 use lib.Dec.{ltb}
 use lib.IntN.{pos}
 use lib.ListN.{length, drop, take}
+use Rattle.std.specs.Prelude.{Option, Some, None, Result, Ok, Err}
 use Rattle.ground.specs.Refusals.{refusal, too_many_characters}
 use Rattle.ground.proofs.Tests.{clash}
+use Rattle.ground.specs.declared.refusals.Refusal.{Refusal}
 use Rattle.ground.specs.Limits.{max_characters}
 use Rattle.subchars.specs.declared.Code.{Code}
 use Rattle.lines.specs.Lines.{TextLine}
 use Rattle.rows.specs.declared.Format.{Format}
-use Rattle.rows.specs.Rows.{Rows, read, refused, character_rows, line_count}
+use Rattle.rows.specs.Rows.{character_rows, line_count}
 use Rattle.rows.proofs.RowLaws.{AllRead, character_read}
 use Rattle.chars.specs.declared.Entry.{Entry}
-use Rattle.chars.specs.declared.TagStep.{TagStep}
-use Rattle.chars.specs.declared.TagStep.TheVariants.{Tag, BadTag}
 use Rattle.chars.specs.Codes.{code, tag_of}
 use Rattle.chars.specs.Chars.{finished, stopped, Listing, ends, listed, character_then, blank_lines, tagged, tagged_from, listing}
 
@@ -34,7 +34,7 @@ pub data Coded (f : Format) : List ℕ → List TextLine → List Entry → Type
   required : {c : ℕ} {cs : List ℕ} {l : TextLine} {ls : List TextLine} {e : Entry} {es : List Entry} →
       e.code ≡ code (pos c) → e.start ≡ l.start → AllRead f e.width (line_count f) (l ∷ ls) → Coded f cs (drop (line_count f) (l ∷ ls)) es → Coded f (c ∷ cs) (l ∷ ls) (e ∷ es)
   tag : {t l : TextLine} {ls : List TextLine} {e : Entry} {es : List Entry} →
-      tag_of t.text ≡ Tag e.code → e.start ≡ l.start → AllRead f e.width (line_count f) (l ∷ ls) → Coded f [] (drop (line_count f) (l ∷ ls)) es → Coded f [] (t ∷ l ∷ ls) (e ∷ es)
+      tag_of t.text ≡ Some e.code → e.start ≡ l.start → AllRead f e.width (line_count f) (l ∷ ls) → Coded f [] (drop (line_count f) (l ∷ ls)) es → Coded f [] (t ∷ l ∷ ls) (e ∷ es)
   -- "if, where a tag line is due, all that remains is blanks, tabs and line ends, the file has ended"
   end : {ls : List TextLine} → blank_lines ls ≡ true → Coded f [] ls []
 
@@ -48,14 +48,14 @@ module _ (f : Format) (size : ℕ) where
   read_then c [] more e = clash (cc)
   read_then c (l ∷ ls) more e = go (character_rows f size (l ∷ ls)) refl e
     where
-      go : (v : Rows) → character_rows f size (l ∷ ls) ≡ v → (listed v c l.start more).ending ≡ finished → ReadThen f c more (l ∷ ls) (listed v c l.start more).entries
-      go (read w) p q = then {l = l} (record { code = c; start = l.start; width = w }) refl refl (character_read f size w (l ∷ ls) p) q
-      go (refused r) p q = clash (cc)
+      go : (v : Result ℕ Refusal) → character_rows f size (l ∷ ls) ≡ v → (listed v c l.start more).ending ≡ finished → ReadThen f c more (l ∷ ls) (listed v c l.start more).entries
+      go (Ok w) p q = then {l = l} (record { code = c; start = l.start; width = w }) refl refl (character_read f size w (l ∷ ls) p) q
+      go (Err r) p q = clash (cc)
 
-  after_tag : (c : Code) (more : Listing) (t : TextLine) (ls : List TextLine) (es : List Entry) → tag_of t.text ≡ Tag c →
+  after_tag : (c : Code) (more : Listing) (t : TextLine) (ls : List TextLine) (es : List Entry) → tag_of t.text ≡ Some c →
       (more.ending ≡ finished → Coded f [] (drop (line_count f) ls) more.entries) → ReadThen f c more ls es → Coded f [] (t ∷ ls) es
   after_tag c more t [] es p g x = elim x [ ]
-  after_tag c more t (l ∷ ls) _ p g (then e a b r q) = tag {t = t} {l = l} {e = e} (p ∙ ap Tag (sym a)) b r (g q)
+  after_tag c more t (l ∷ ls) _ p g (then e a b r q) = tag {t = t} {l = l} {e = e} (p ∙ ap Some (sym a)) b r (g q)
 
   after_required : (k : ℕ) (cs : List ℕ) (more : Listing) (ls : List TextLine) (es : List Entry) →
       (more.ending ≡ finished → Coded f cs (drop (line_count f) ls) more.entries) → ReadThen f (code (pos k)) more ls es → Coded f (k ∷ cs) ls es
@@ -72,17 +72,17 @@ module _ (f : Format) (size : ℕ) where
       more : Listing
       more = tagged_from f size (line_count f) (suc n) ls
 
-      room : (c : Code) → tag_of l.text ≡ Tag c → (b : Bool) → (more.ending ≡ finished → Coded f [] (drop (line_count f) ls) more.entries) →
+      room : (c : Code) → tag_of l.text ≡ Some c → (b : Bool) → (more.ending ≡ finished → Coded f [] (drop (line_count f) ls) more.entries) →
           (cond b (character_then f size c ls more) (ends (stopped (refusal too_many_characters l.start)))).ending ≡ finished →
           Coded f [] (l ∷ ls) (cond b (character_then f size c ls more) (ends (stopped (refusal too_many_characters l.start)))).entries
       room c p true g q = after_tag c more l ls (character_then f size c ls more).entries p g (read_then c ls more q)
       room c p false g q = clash (cc)
 
-      go : (b : Bool) → blank_lines (l ∷ ls) ≡ b → (t : TagStep) → tag_of l.text ≡ t → (cond b (ends finished) (tagged t f size l.start n ls more)).ending ≡ finished →
+      go : (b : Bool) → blank_lines (l ∷ ls) ≡ b → (t : Option Code) → tag_of l.text ≡ t → (cond b (ends finished) (tagged t f size l.start n ls more)).ending ≡ finished →
           (more.ending ≡ finished → Coded f [] (drop (line_count f) ls) more.entries) → Coded f [] (l ∷ ls) (cond b (ends finished) (tagged t f size l.start n ls more)).entries
       go true m t p q g = end m
-      go false m BadTag p q g = clash (cc)
-      go false m (Tag c) p q g = room c p (ltb n max_characters) g q
+      go false m None p q g = clash (cc)
+      go false m (Some c) p q g = room c p (ltb n max_characters) g q
 
   pub listing_coded : (cs : List ℕ) (n : ℕ) (ls : List TextLine) → (listing f size cs n ls).ending ≡ finished → Coded f cs ls (listing f size cs n ls).entries
   unfolding listing
@@ -110,7 +110,7 @@ coded_first f [] ls es s = refl
 
 -- A character whose rows stand right behind a tag line that names its code.
 pub data Tagged (e : Entry) : List TextLine → Type 0 where
-  behind : {t l : TextLine} {ls : List TextLine} → tag_of t.text ≡ Tag e.code → e.start ≡ l.start → Tagged e (t ∷ l ∷ ls)
+  behind : {t l : TextLine} {ls : List TextLine} → tag_of t.text ≡ Some e.code → e.start ≡ l.start → Tagged e (t ∷ l ∷ ls)
   beyond : {l : TextLine} {ls : List TextLine} → Tagged e ls → Tagged e (l ∷ ls)
 
 pub data EachTagged (ls : List TextLine) : List Entry → Type 0 where

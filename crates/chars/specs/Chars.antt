@@ -1,6 +1,6 @@
 -- The characters of a font on its lines: document 01, "The font, line by line".
 -- Assumes nothing.
-use Rattle.std.specs.Prelude.{ℕ, zero, suc, Bool, true, cond, ◌&&◌, List, [], ◌∷◌, ltb, pos, drop}
+use Rattle.std.specs.Prelude.{ℕ, zero, suc, Bool, true, cond, ◌&&◌, Option, Some, None, Result, Ok, Err, List, [], ◌∷◌, ltb, pos, drop}
 use Rattle.ground.specs.Runs.{all}
 use Rattle.ground.specs.Refusals.{refusal, missing_line, bad_code_tag, too_many_characters}
 use Rattle.ground.specs.declared.refusals.Refusal.{Refusal}
@@ -9,10 +9,8 @@ use Rattle.subchars.specs.declared.Code.{Code}
 use Rattle.lines.specs.Lines.{TextLine}
 use Rattle.lines.specs.Words.{is_blank}
 use Rattle.rows.specs.declared.Format.{Format}
-use Rattle.rows.specs.Rows.{Rows, read, refused, character_rows, line_count}
+use Rattle.rows.specs.Rows.{character_rows, line_count}
 use Rattle.chars.specs.declared.Entry.{Entry}
-use Rattle.chars.specs.declared.TagStep.{TagStep}
-use Rattle.chars.specs.declared.TagStep.TheVariants.{Tag, BadTag}
 use Rattle.chars.specs.Codes.{code, tag_of}
 
 -- How the characters end: with the file, or with a refusal.
@@ -36,9 +34,9 @@ abbrev pub entry : Code → ℕ → ℕ → Entry
 entry c start width = record { code = c; start = start; width = width }
 
 -- A character whose first row line is the first of the lines, and then those that follow it.
-abbrev pub listed : Rows → Code → ℕ → Listing → Listing
-listed (read w) c start more = with_entry (entry c start w) more
-listed (refused r) c start more = ends (stopped r)
+abbrev pub listed : Result ℕ Refusal → Code → ℕ → Listing → Listing
+listed (Ok w) c start more = with_entry (entry c start w) more
+listed (Err r) c start more = ends (stopped r)
 
 abbrev pub character_then : Format → ℕ → Code → List TextLine → Listing → Listing
 character_then f size c [] more = ends (stopped (refusal missing_line size))
@@ -50,9 +48,9 @@ blank_lines [] = true
 blank_lines (l ∷ ls) = all is_blank l.text && blank_lines ls
 
 -- A tag line that starts at a place, after n characters: "on one tag line 7 before 8".
-abbrev pub tagged : TagStep → Format → ℕ → ℕ → ℕ → List TextLine → Listing → Listing
-tagged BadTag f size start n ls more = ends (stopped (refusal bad_code_tag start))
-tagged (Tag c) f size start n ls more = cond (ltb n max_characters) (character_then f size c ls more) (ends (stopped (refusal too_many_characters start)))
+abbrev pub tagged : Option Code → Format → ℕ → ℕ → ℕ → List TextLine → Listing → Listing
+tagged None f size start n ls more = ends (stopped (refusal bad_code_tag start))
+tagged (Some c) f size start n ls more = cond (ltb n max_characters) (character_then f size c ls more) (ends (stopped (refusal too_many_characters start)))
 
 -- "Then tagged characters to the end", after n others; the first k lines are rows of the character before.
 -- "If, where a tag line is due, all that remains is blanks, tabs and line ends, the file has ended."

@@ -1,13 +1,9 @@
 -- Character codes: the required ones, and those of code tags. Document 01, "The font, line by line".
 -- Assumes nothing.
-use Rattle.std.specs.Prelude.{ℕ, zero, suc, Bool, false, cond, List, [], ◌∷◌, ◌++◌, eqb, ℤ, pos, negsuc}
+use Rattle.std.specs.Prelude.{ℕ, zero, suc, Bool, false, cond, Option, Some, None, List, [], ◌∷◌, ◌++◌, eqb, ℤ, pos, negsuc}
 use Rattle.subchars.specs.declared.Code.{Code}
 use Rattle.lines.specs.Words.{first_word}
 use Rattle.lines.specs.Numbers.{code_number}
-use Rattle.lines.specs.declared.numbers.CodeNumber.{CodeNumber}
-use Rattle.lines.specs.declared.numbers.CodeNumber.TheVariants.{Named, NotCode}
-use Rattle.chars.specs.declared.TagStep.{TagStep}
-use Rattle.chars.specs.declared.TagStep.TheVariants.{Tag, BadTag}
 
 -- n numbers from k on.
 unfoldable pub count : ℕ → ℕ → List ℕ
@@ -48,10 +44,10 @@ same_code a b = same_number a.0 b.0
 abbrev pub no_code : Code
 no_code = code (negsuc 0)
 
-abbrev pub tag_code : CodeNumber → TagStep
-tag_code (Named c) = cond (same_code c no_code) BadTag (Tag c)
-tag_code NotCode = BadTag
+abbrev pub tag_code : Option Code → Option Code
+tag_code (Some c) = cond (same_code c no_code) None (Some c)
+tag_code None = None
 
 -- "A tag line's first word (blanks or tabs before it may stand) is" the code; "the rest is comment."
-unfoldable pub tag_of : List ℕ → TagStep
+unfoldable pub tag_of : List ℕ → Option Code
 tag_of t = tag_code (code_number (first_word t))

@@ -2,44 +2,35 @@
 #![tactic(auto)]
 
 ghost use Rattle.std.specs.Prelude.{◌≡◌, ◌<◌, get_or};
-ghost use Rattle.chars.specs.Codes.{required_codes, required_count, same_code, tag_of};
+ghost use Rattle.chars.specs.Codes.{required_codes, required_count, tag_of};
 ghost use Rattle.chars.specs.Steps.{listed_at, tag_at, blank_from, tagged_at, next_at};
 
-use ground::refusals::Refusal;
-use ground::{limits, refusals};
-use lines::numbers::CodeNumber;
-use lines::{Cursor, LineStep, numbers, words};
-use rows::{CharStep, Format};
+use ground::limits;
+use ground::refusals::{Reason, Refusal};
+use lines::{Cursor, numbers, words};
+use rows::Format;
 use subchars::Code;
 
 // A FIGcharacter of a font: its code, where its first row line starts, and its width.
-#[derive(Clone, Copy)]
+#[derive(Clone, Copy, PartialEq, Eq)]
 pub struct Entry {
     pub code: Code,
     pub start: usize,
     pub width: usize,
 }
 
-// What a code tag says.
+// What a tag line of a font says: its code, and the cursor behind it.
 #[derive(Clone, Copy)]
-pub enum TagStep {
-    Tag(Code),
-    BadTag,
+pub struct TagLine {
+    pub code: Code,
+    pub next: Cursor,
 }
 
-// The tag line at a place of a font, and the cursor behind it.
+// A FIGcharacter of a font, and the cursor behind it.
 #[derive(Clone, Copy)]
-pub enum TagAt {
-    TagLine { code: Code, next: Cursor },
-    NoTag,
-}
-
-// The next FIGcharacter of a font, and the cursor behind it.
-#[derive(Clone, Copy)]
-pub enum CharNext {
-    Listed { entry: Entry, next: Cursor },
-    Complete,
-    Stopped(Refusal),
+pub struct Listed {
+    pub entry: Entry,
+    pub next: Cursor,
 }
 
 // The required codes: those of ASCII from 32 to 126, and the seven of Deutsch.
@@ -60,106 +51,76 @@ fn required(k: usize) -> usize
     DEUTSCH[k - ASCII]
 }
 
-pub fn same_code(a: Code, b: Code) -> bool
-    ensures { result ≡ same_code a b }
-{
-    a.0 == b.0
-}
-
-// The code that a tag line gives; -1 is not one.
-fn tag_of(t: &[u8]) -> TagStep
+// The code that a tag line gives, if it gives one; -1 is not one.
+fn tag_of(t: &[u8]) -> Option<Code>
     ensures { result ≡ tag_of t.now }
 {
     let word = words::first_word(t);
-    let start = word.start;
-    let end = word.end;
-    match numbers::code_number(&t[start..end]) {
-        CodeNumber::Named(code) => {
-            if same_code(code, Code(-1)) {
-                return TagStep::BadTag;
-            }
-            TagStep::Tag(code)
-        }
-        CodeNumber::NotCode => TagStep::BadTag,
+    let code = numbers::code_number(&t[word.start..word.end])?;
+    if code == Code(-1) {
+        return None;
     }
+    Some(code)
 }
 
-// The tag line at a cursor.
-fn tag_at(s: &[u8], cursor: Cursor) -> TagAt
+// The tag line at a cursor, if there is a good one.
+fn tag_at(s: &[u8], cursor: Cursor) -> Option<TagLine>
     ensures { result ≡ tag_at s.now cursor.at }
 {
-    match cursor.next(s) {
-        LineStep::Line { start, end, next } => match tag_of(&s[start..end]) {
-            TagStep::Tag(code) => TagAt::TagLine { code, next },
-            TagStep::BadTag => TagAt::NoTag,
-        },
-        LineStep::NoLine => TagAt::NoTag,
-    }
+    let line = cursor.next(s)?;
+    let code = tag_of(&s[line.start..line.end])?;
+    Some(TagLine {
+        code,
+        next: line.next,
+    })
 }
 
 // Whether only blanks, tabs and line ends remain.
 fn rest_is_blank(s: &[u8], at: usize) -> bool
     ensures { result ≡ blank_from s.now at }
 {
-    let mut i = at;
-    while i < s.len() {
-        let b = s[i];
-        if words::is_blank(b) {
-            i += 1;
-        } else {
-            if words::is_end(b) {
-                i += 1;
-            } else {
-                return false;
-            }
-        }
-    }
-    true
+    s.iter()
+        .skip(at)
+        .all(|&b| words::is_blank(b) || words::is_end(b))
 }
 
 // The character of a code, whose first row line is at a cursor.
-fn listed_at(f: Format, s: &[u8], cursor: Cursor, code: Code) -> CharNext
+fn listed_at(f: Format, s: &[u8], cursor: Cursor, code: Code) -> Result<Option<Listed>, Refusal>
     ensures { result ≡ listed_at f s.now cursor.at code }
 {
-    match rows::char_at(f, s, cursor) {
-        CharStep::Char { width, next } => CharNext::Listed {
-            entry: Entry {
-                code,
-                start: cursor.at,
-                width,
-            },
-            next,
+    let rows = rows::char_at(f, s, cursor)?;
+    Ok(Some(Listed {
+        entry: Entry {
+            code,
+            start: cursor.at,
+            width: rows.width,
         },
-        CharStep::NoChar(r) => CharNext::Stopped(r),
-    }
+        next: rows.next,
+    }))
 }
 
-// The tagged character whose tag line is at a cursor, after n others.
-fn tagged_at(f: Format, s: &[u8], cursor: Cursor, n: usize) -> CharNext
+// The tagged character whose tag line is at a cursor, after n others; none if the font has ended.
+fn tagged_at(f: Format, s: &[u8], cursor: Cursor, n: usize) -> Result<Option<Listed>, Refusal>
     ensures { result ≡ tagged_at f s.now cursor.at n }
 {
     if rest_is_blank(s, cursor.at) {
-        return CharNext::Complete;
+        return Ok(None);
     }
-    match tag_at(s, cursor) {
-        TagAt::TagLine { code, next } => {
-            if n < limits::MAX_CHARACTERS {
-                return listed_at(f, s, next, code);
-            }
-            CharNext::Stopped(Refusal {
-                number: refusals::TOO_MANY_CHARACTERS,
-                place: cursor.at,
-            })
-        }
-        TagAt::NoTag => CharNext::Stopped(Refusal {
-            number: refusals::BAD_CODE_TAG,
-            place: cursor.at,
-        }),
+    let tag = tag_at(s, cursor).ok_or(Refusal {
+        reason: Reason::BadCodeTag,
+        place: cursor.at,
+    })?;
+    if n < limits::MAX_CHARACTERS {
+        return listed_at(f, s, tag.next, tag.code);
     }
+    Err(Refusal {
+        reason: Reason::TooManyCharacters,
+        place: cursor.at,
+    })
 }
 
-// The character at a cursor, after n others.
-pub fn next_char(f: Format, s: &[u8], cursor: Cursor, n: usize) -> CharNext
+// The character at a cursor, after n others; none if the font has ended.
+pub fn next_char(f: Format, s: &[u8], cursor: Cursor, n: usize) -> Result<Option<Listed>, Refusal>
     ensures { result ≡ next_at f s.now cursor.at n }
 {
     if n < REQUIRED {

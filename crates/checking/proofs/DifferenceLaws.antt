@@ -11,8 +11,7 @@ use lib.Dec.{eqb}
 use lib.ListN.{length, get_or}
 use borrow.Author.Tests.{eqb-true, eqb-false}
 use Rattle.ground.proofs.Tests.{clash}
-use Rattle.checking.specs.declared.Compared.{Compared}
-use Rattle.checking.specs.declared.Compared.TheVariants.{Same, Differs}
+use Rattle.std.specs.Prelude.{Option, Some, None}
 use Rattle.checking.specs.Difference.{further, first_difference}
 
 -- Place k parts two lists: what they have there differs, or one of them ends there and the other goes on.
@@ -33,9 +32,9 @@ within k xs ys (first_ends a b) = (omega arith, omega arith)
 within k xs ys (second-ends a b) = (omega arith, omega arith)
 
 -- what a comparison came to
-pub data Outcome (xs ys : List ℕ) : Compared → Type 0 where
-  same : xs ≡ ys → Outcome xs ys Same
-  parted : (k : ℕ) → PartsFirst k xs ys → Outcome xs ys (Differs k)
+pub data Outcome (xs ys : List ℕ) : Option ℕ → Type 0 where
+  same : xs ≡ ys → Outcome xs ys None
+  parted : (k : ℕ) → PartsFirst k xs ys → Outcome xs ys (Some k)
 
 module _ (x y : ℕ) (xs ys : List ℕ) where
   parts_longer : (k : ℕ) → Parts k xs ys → Parts (suc k) (x ∷ xs) (y ∷ ys)
@@ -47,11 +46,11 @@ module _ (x y : ℕ) (xs ys : List ℕ) where
   before_longer k e f zero l = e
   before_longer k e f (suc i) l = f.before i (omega arith)
 
-  longer : {d : Compared} → x ≡ y → Outcome xs ys d → Outcome (x ∷ xs) (y ∷ ys) (further d)
+  longer : {d : Option ℕ} → x ≡ y → Outcome xs ys d → Outcome (x ∷ xs) (y ∷ ys) (further d)
   longer e (same p) = same (ap₂ ◌∷◌ e p)
   longer e (parted k f) = parted (suc k) (record { here = parts_longer k f.here; before = before_longer k e f })
 
-  unequal : (x ≡ y → ⊥) → Outcome (x ∷ xs) (y ∷ ys) (Differs 0)
+  unequal : (x ≡ y → ⊥) → Outcome (x ∷ xs) (y ∷ ys) (Some 0)
   unequal n = parted 0 (record { here = differ (omega arith) (omega arith) n; before = λ i l. absurd (omega arith) })
 
 pub outcome : (xs ys : List ℕ) → Outcome xs ys (first_difference xs ys)
@@ -61,7 +60,7 @@ outcome [] (y ∷ ys) = parted 0 (record { here = first_ends refl (omega arith);
 outcome (x ∷ xs) [] = parted 0 (record { here = second-ends (omega arith) refl; before = λ i l. absurd (omega arith) })
 outcome (x ∷ xs) (y ∷ ys) = go (eqb x y) refl (outcome xs ys)
   where
-    go : {d : Compared} (t : Bool) → eqb x y ≡ t → Outcome xs ys d → Outcome (x ∷ xs) (y ∷ ys) (cond t (further d) (Differs 0))
+    go : {d : Option ℕ} (t : Bool) → eqb x y ≡ t → Outcome xs ys d → Outcome (x ∷ xs) (y ∷ ys) (cond t (further d) (Some 0))
     go true e o = longer x y xs ys (eqb-true x y e) o
     go false e o = unequal x y xs ys (eqb-false x y e)
 
@@ -89,25 +88,25 @@ whole k xs (second-ends a b) = omega arith
 
 module _ (xs ys : List ℕ) where
   -- no place is named exactly if the lists are the same
-  pub same_exactly : first_difference xs ys ≡ Same ↔ xs ≡ ys
+  pub same_exactly : first_difference xs ys ≡ None ↔ xs ≡ ys
   same_exactly = (to (outcome xs ys), from (outcome xs ys))
     where
-      to : {d : Compared} → Outcome xs ys d → d ≡ Same → xs ≡ ys
+      to : {d : Option ℕ} → Outcome xs ys d → d ≡ None → xs ≡ ys
       to (same p) e = p
       to (parted k f) e = clash (cc)
 
-      from : {d : Compared} → Outcome xs ys d → xs ≡ ys → d ≡ Same
+      from : {d : Option ℕ} → Outcome xs ys d → xs ≡ ys → d ≡ None
       from (same q) p = refl
       from (parted k f) p = absurd (whole k ys (rw p at f.here))
 
   -- a place is named exactly if it is the first that parts them
-  pub differs_exactly : (k : ℕ) → first_difference xs ys ≡ Differs k ↔ PartsFirst k xs ys
+  pub differs_exactly : (k : ℕ) → first_difference xs ys ≡ Some k ↔ PartsFirst k xs ys
   differs_exactly k = (to (outcome xs ys), from (outcome xs ys))
     where
-      to : {d : Compared} → Outcome xs ys d → d ≡ Differs k → PartsFirst k xs ys
+      to : {d : Option ℕ} → Outcome xs ys d → d ≡ Some k → PartsFirst k xs ys
       to (same p) e = clash (cc)
       to (parted j f) e = let q : j ≡ k = cc in rw q at f
 
-      from : {d : Compared} → Outcome xs ys d → PartsFirst k xs ys → d ≡ Differs k
+      from : {d : Option ℕ} → Outcome xs ys d → PartsFirst k xs ys → d ≡ Some k
       from (same p) f = absurd (whole k ys (rw p at f.here))
-      from (parted j g) f = ap Differs (one_place j k xs ys g f)
+      from (parted j g) f = ap Some (one_place j k xs ys g f)

@@ -1,17 +1,15 @@
 -- Where two lists of numbers first differ: one definition for the bytes of two FIGures and for two lists of overlaps. Document 02, Q-8.
 -- Assumes nothing.
-use Rattle.std.specs.Prelude.{ℕ, suc, cond, List, [], ◌∷◌, eqb}
-use Rattle.checking.specs.declared.Compared.{Compared}
-use Rattle.checking.specs.declared.Compared.TheVariants.{Same, Differs}
+use Rattle.std.specs.Prelude.{ℕ, suc, cond, List, [], ◌∷◌, eqb, Option, Some, None}
 
 -- One place further on.
-abbrev pub further : Compared → Compared
-further Same = Same
-further (Differs k) = Differs (suc k)
+abbrev pub further : Option ℕ → Option ℕ
+further None = None
+further (Some k) = Some (suc k)
 
 -- "The first wrong byte; where one FIGure is the start of the other, that is the shorter one's end."
-unfoldable pub first_difference : List ℕ → List ℕ → Compared
-first_difference [] [] = Same
-first_difference [] (y ∷ ys) = Differs 0
-first_difference (x ∷ xs) [] = Differs 0
-first_difference (x ∷ xs) (y ∷ ys) = cond (eqb x y) (further (first_difference xs ys)) (Differs 0)
+unfoldable pub first_difference : List ℕ → List ℕ → Option ℕ
+first_difference [] [] = None
+first_difference [] (y ∷ ys) = Some 0
+first_difference (x ∷ xs) [] = Some 0
+first_difference (x ∷ xs) (y ∷ ys) = cond (eqb x y) (further (first_difference xs ys)) (Some 0)

@@ -7,36 +7,27 @@ ghost use Rattle.blocks.specs.Block.{rows_of};
 ghost use Rattle.blocks.specs.Writing.{from_on};
 ghost use Rattle.showing.specs.Output.{with_lf, shown};
 ghost use Rattle.showing.specs.Scratch.{scratch_line};
-ghost use Rattle.checking.specs.declared.Compared.TheVariants.{Same};
 ghost use Rattle.checking.specs.Difference.{first_difference};
-ghost use Rattle.checking.specs.Verdict.{named, line_checked};
+ghost use Rattle.checking.specs.Verdict.{line_checked};
 ghost use Rattle.checking.specs.Steps.{so_far, first_wrong_of, tallied};
 
-use ground::refusals::Refusal;
-use ground::{limits, refusals};
+use ground::limits;
+use ground::refusals::{Reason, Refusal};
 use subchars::{Mode, SubCharacter};
 
-// How two lists compare: they are the same, or they first differ at a place.
-#[derive(Clone, Copy)]
-pub enum Compared {
-    Same,
-    Differs(usize),
-}
-
-// What a check answers: accepted, the number of the first wrong overlap in its list, the place of the first wrong byte in its FIGure, or a refusal.
-#[derive(Clone, Copy)]
-pub enum CheckAnswer {
+// What a check finds: the drawing is right, the number of the first wrong overlap in the list, or the place of the first wrong byte in the FIGure.
+#[derive(Clone, Copy, PartialEq, Eq)]
+pub enum Verdict {
     Accepted,
     WrongOverlap(usize),
     WrongByte(usize),
-    Refused(Refusal),
 }
 
-// What is known of a list of overlaps while a text is drawn: how many characters were drawn, and how their overlaps compare with the list.
+// What is known of a list of overlaps while a text is drawn: how many characters were drawn, and which is the first wrong overlap.
 #[derive(Clone, Copy)]
 pub struct Tally {
     pub drawn: usize,
-    pub wrong: Compared,
+    pub wrong: Option<usize>,
 }
 
 // Byte k of a row as it is put out, w columns from a place on: hardblanks as blanks, and LF behind them.
@@ -51,7 +42,7 @@ fn shown_byte(area: &[u8], from: usize, w: usize, k: usize, hardblank: SubCharac
     b'\n'
 }
 
-// Compares a FIGure with h rows of the area as they are put out, w columns from column `from` on.
+// Where a FIGure first differs from h rows of the area as they are put out, w columns from column `from` on.
 fn compare_rows(
     area: &[u8],
     from: usize,
@@ -59,36 +50,28 @@ fn compare_rows(
     hardblank: SubCharacter,
     h: usize,
     figure: &[u8],
-) -> Compared
+) -> Option<usize>
     requires { (h ≤ max_height) × (from + w ≤ max_line_width) × (min_scratch ≤ length area.now) }
     ensures { result ≡ first_difference (rows_of (λ (q : ℕ). with_lf hardblank.0 w (from_on area.now (q * max_line_width + from))) h (w + 1)) figure.now }
 {
     let need = h * (w + 1);
-    let shorter = ground::smaller(need, figure.len());
-    let mut r: usize = 0;
-    let mut k: usize = 0;
-    let mut i: usize = 0;
-    while i < shorter {
+    let shorter = need.min(figure.len());
+    for i in 0..shorter {
+        let r = i / (w + 1);
+        let k = i % (w + 1);
         let x = shown_byte(area, r * limits::MAX_LINE_WIDTH + from, w, k, hardblank);
         if figure[i] != x {
-            return Compared::Differs(i);
-        }
-        i += 1;
-        if k < w {
-            k += 1;
-        } else {
-            k = 0;
-            r += 1;
+            return Some(i);
         }
     }
     if need == figure.len() {
-        return Compared::Same;
+        return None;
     }
-    Compared::Differs(shorter)
+    Some(shorter)
 }
 
 // Compares a FIGure with the line w wide that the area holds, as it is put out.
-pub fn compare_line(area: &[u8], mode: Mode, w: usize, h: usize, figure: &[u8]) -> Compared
+pub fn compare_line(area: &[u8], mode: Mode, w: usize, h: usize, figure: &[u8]) -> Option<usize>
     requires { (h ≤ max_height) × (w ≤ max_line_width) × (min_scratch ≤ length area.now) }
     ensures { result ≡ first_difference (shown mode.hardblank.0 h (scratch_line mode.direction w area.now)) figure.now }
 {
@@ -98,27 +81,14 @@ pub fn compare_line(area: &[u8], mode: Mode, w: usize, h: usize, figure: &[u8]) 
     compare_rows(area, from, w, hardblank, h, figure)
 }
 
-// The first of the wrong places so far and one more, behind them.
-fn first_of(wrong: Compared, k: usize) -> Compared
-    ensures { result ≡ first_wrong_of wrong k }
-{
-    match wrong {
-        Compared::Same => Compared::Differs(k),
-        Compared::Differs(first) => Compared::Differs(first),
-    }
-}
-
-// How the right overlaps compare with as many of a list, with one right overlap more, which has number k.
-fn compare_next(wrong: Compared, k: usize, right: usize, overlaps: &[usize]) -> Compared
+// Where the right overlaps first differ from as many of a list, with one right overlap more, which has number k.
+fn compare_next(wrong: Option<usize>, k: usize, right: usize, overlaps: &[usize]) -> Option<usize>
     ensures { (before : List ℕ) → length before ≡ k → wrong ≡ so_far before overlaps.now → result ≡ so_far (before ++ (right ∷ [])) overlaps.now }
 {
-    if overlaps.len() <= k {
-        return first_of(wrong, k);
-    }
-    if overlaps[k] == right {
+    if k < overlaps.len() && overlaps[k] == right {
         return wrong;
     }
-    first_of(wrong, k)
+    wrong.or(Some(k))
 }
 
 // What is known of a list of overlaps before the first character.
@@ -127,7 +97,7 @@ pub fn none_drawn() -> Tally
 {
     Tally {
         drawn: 0,
-        wrong: Compared::Same,
+        wrong: None,
     }
 }
 
@@ -140,7 +110,7 @@ pub fn with_overlap(tally: Tally, overlap: usize, overlaps: &[usize]) -> Tally
     if drawn == 0 {
         return Tally {
             drawn: 1,
-            wrong: Compared::Same,
+            wrong: None,
         };
     }
     let before = tally.wrong;
@@ -148,23 +118,6 @@ pub fn with_overlap(tally: Tally, overlap: usize, overlaps: &[usize]) -> Tally
     Tally {
         drawn: drawn + 1,
         wrong,
-    }
-}
-
-// How many overlaps a list has for the drawn characters: one for each after the first.
-fn right_length(drawn: usize) -> usize
-    ensures { result ≡ drawn - 1 }
-{
-    if drawn == 0 { 0 } else { drawn - 1 }
-}
-
-// What a check answers where every overlap is right.
-fn judge_bytes(bytes: Compared) -> CheckAnswer
-    ensures { result ≡ named Same bytes }
-{
-    match bytes {
-        Compared::Same => CheckAnswer::Accepted,
-        Compared::Differs(place) => CheckAnswer::WrongByte(place),
     }
 }
 
@@ -178,29 +131,23 @@ pub fn check_line(
     tally: Tally,
     overlaps: &[usize],
     figure: &[u8],
-) -> CheckAnswer
+) -> Result<Verdict, Refusal>
     requires { (h ≤ max_height) × (min_scratch ≤ length area.now) }
     ensures { (trace : List ℕ) → (w ≤ max_line_width → tally ≡ tallied overlaps.now trace) → result ≡ line_checked mode.hardblank.0 h (scratch_line mode.direction w area.now) trace overlaps.now figure.now }
 {
     if limits::MAX_LINE_WIDTH < w {
-        return CheckAnswer::Refused(Refusal {
-            number: refusals::LINE_TOO_WIDE,
-            place: 0,
-        });
+        return Err(Refusal::of(Reason::LineTooWide));
     }
     let drawn = tally.drawn;
-    if overlaps.len() != right_length(drawn) {
-        return CheckAnswer::Refused(Refusal {
-            number: refusals::WRONG_LENGTH,
-            place: 0,
-        });
+    if overlaps.len() != drawn.saturating_sub(1) {
+        return Err(Refusal::of(Reason::WrongLength));
     }
     let wrong = tally.wrong;
-    match wrong {
-        Compared::Differs(k) => CheckAnswer::WrongOverlap(k),
-        Compared::Same => {
-            let bytes = compare_line(area, mode, w, h, figure);
-            judge_bytes(bytes)
-        }
+    if let Some(k) = wrong {
+        return Ok(Verdict::WrongOverlap(k));
+    }
+    match compare_line(area, mode, w, h, figure) {
+        Some(place) => Ok(Verdict::WrongByte(place)),
+        None => Ok(Verdict::Accepted),
     }
 }

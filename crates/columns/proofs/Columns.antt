@@ -16,7 +16,7 @@ use Rattle.blocks.specs.Block.{Block}
 use Rattle.blocks.specs.Writing.{RowAfterRow, Like}
 use Rattle.columns.specs.declared.Placed.{Placed}
 use Rattle.columns.specs.Stack.{upright}
-use Rattle.columns.specs.Placing.{placed_block, PlacedIn}
+use Rattle.columns.specs.Placing.{placed_block, placed_columns}
 
 module _ (hardblank : ℕ) (a : Block) (c r : ℕ) where
   -- "Hardblanks are first made blanks",
@@ -50,16 +50,16 @@ upright-like hardblank n w a b e c r u v =
 abbrev pub view_of : Placed → View
 view_of p = record { base = p.base; along = p.stride; len = p.height }
 
-module _ (s starts : List ℕ) (p : Placed) (w : ℕ) (placed : PlacedIn s p) (q : RowAfterRow 1 w starts) (narrow : w ≤ p.width) where
-  pub columns_inside : Inside s starts (view_of p) w
+module _ (starts : List ℕ) (p : Placed) (w : ℕ) (q : RowAfterRow 1 w starts) (narrow : w ≤ p.width) where
+  pub columns_inside : Inside p.bytes.now starts (view_of p) w
   columns_inside =
       record {
         lanes = q.many;
-        begin = λ c u. omega (arith, q.at c u, placed.within 0 (omega (arith, placed.some-rows)));
-        cells = λ c r u v. omega (arith, q.at c u, placed.within r v);
+        begin = λ c u. omega (arith, q.at c u, p.lies.within 0 (omega (arith, p.lies.some-rows)));
+        cells = λ c r u v. omega (arith, q.at c u, p.lies.within r v);
       }
 
-  pub columns_seen : (hardblank : ℕ) → Agree w p.height (blanked_cells hardblank (cells_of s starts (view_of p))) (upright hardblank (placed_block s p))
+  pub columns_seen : (hardblank : ℕ) → Agree w p.height (blanked_cells hardblank (cells_of p.bytes.now starts (view_of p))) (placed_columns hardblank p)
   columns_seen hardblank c r u v =
       let e : p.base + get_or starts c 0 + r * p.stride ≡ r * p.stride + p.base + c = omega (arith, q.at c u) in
-      ap (λ (i : ℕ). blanked hardblank (get_or s i 0)) e ∙ sym (cell_inside hardblank (placed_block s p) c r (omega arith))
+      ap (λ (i : ℕ). blanked hardblank (get_or p.bytes.now i 0)) e ∙ sym (cell_inside hardblank (placed_block p) c r (omega arith))

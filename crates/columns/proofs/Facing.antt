@@ -1,53 +1,23 @@
--- The test of an overlap row by row, as the code has it, is the test of each column; and the largest overlap that passes, counted up.
+-- The largest overlap that passes, counted up.
 -- Assumes nothing.
-use mathlib.Core.Path.{◌≡◌, sym, ◌∙◌, ap, ap₂}
+use mathlib.Core.Path.{◌≡◌, sym, ◌∙◌, ap}
 use mathlib.Core.Bool.{Bool, true, false}
-use mathlib.Core.List.{List}
-use Prim.Native.Nat.{ℕ, ◌+◌, ◌-◌, ◌*◌, ◌≤◌, ◌<◌, min}
+use Prim.Native.Nat.{ℕ, ◌+◌, ◌≤◌, ◌<◌, min}
 use native.Mathlib.Omega.{arith}
 use native.Mathlib.Decide.{dec_le}
 use native.Mathlib.Numerals.{add-one}
-use Rattle.ground.specs.Count.{every}
-use Rattle.ground.proofs.Tests.{same_test}
-use Rattle.ground.proofs.Counting.{every-at, every_of, every_cong, reach-is}
-use Rattle.subchars.specs.Hardblank.{blanked}
+use Rattle.ground.proofs.Counting.{reach-is}
 use Rattle.lanes.specs.Blocks.{Cells}
 use Rattle.lanes.specs.Overlap.{facing, furthest}
 use Rattle.lanes.proofs.Fitting.{facing-none}
-use Rattle.lanes.proofs.Smushing.{facing-at, facing_of}
-use Rattle.blocks.specs.Writing.{from_on}
-use Rattle.columns.specs.declared.Placed.{Placed}
-use Rattle.columns.specs.Stack.{upright}
-use Rattle.columns.specs.Placing.{placed_block}
-use Rattle.columns.proofs.Columns.{cell_inside}
 
-module _ (ok : ℕ → ℕ → Bool) (w n : ℕ) (a b : Cells) where
-  -- each pair of row i of the lower block passes
-  abbrev pub row_faces : ℕ → ℕ → Bool
-  row_faces o i = every (λ c. ok (a c (n - o + i)) (b c i)) w
+module _ (ok : ℕ → ℕ → Bool) (w n m : ℕ) (a b : Cells) where
+  -- no overlap passes, and with each one more all up to it
+  pub far_none : (k : ℕ) → k ≤ 0 → facing ok w n a b k ≡ true
+  far_none k u = let e : k ≡ 0 = omega arith in ap (facing ok w n a b) e ∙ facing-none n m a b ok w
 
-  pub rows-facing : (o : ℕ) → every (row_faces o) o ≡ facing ok w n a b o
-  rows-facing o =
-      same_test (every (row_faces o) o) (facing ok w n a b o)
-      (λ e. facing_of ok w n a b o λ c i u v. every-at (λ k. ok (a k (n - o + i)) (b k i)) w (every-at (row_faces o) o e i v) c u)
-      (λ e. every_of (row_faces o) o λ i v. every_of (λ k. ok (a k (n - o + i)) (b k i)) w λ c u. facing-at ok w n a b o e c i u v)
+  pub far_next : (o : ℕ) → ((k : ℕ) → k ≤ o → facing ok w n a b k ≡ true) → facing ok w n a b (o + 1) ≡ true → (k : ℕ) → k ≤ o + 1 → facing ok w n a b k ≡ true
+  far_next o f e k u = elim (dec_le k o) [ yes l ↦ f k l | no g ↦ let z : k ≡ o + 1 = omega arith in ap (facing ok w n a b) z ∙ e ]
 
-  module _ (m : ℕ) where
-    -- no overlap passes, and with each one more all up to it
-    pub far_none : (k : ℕ) → k ≤ 0 → facing ok w n a b k ≡ true
-    far_none k u = let e : k ≡ 0 = omega arith in ap (facing ok w n a b) e ∙ facing-none n m a b ok w
-
-    pub far_next : (o : ℕ) → ((k : ℕ) → k ≤ o → facing ok w n a b k ≡ true) → facing ok w n a b (o + 1) ≡ true → (k : ℕ) → k ≤ o + 1 → facing ok w n a b k ≡ true
-    far_next o f e k u = elim (dec_le k o) [ yes l ↦ f k l | no g ↦ let z : k ≡ o + 1 = omega arith in ap (facing ok w n a b) z ∙ e ]
-
-    pub far_is : (o : ℕ) → o ≤ min n m → ((k : ℕ) → k ≤ o → facing ok w n a b k ≡ true) → (o < min n m → facing ok w n a b (o + 1) ≡ false) → o ≡ furthest ok w n m a b
-    far_is o u f g = sym (reach-is (facing ok w n a b) (facing-none n m a b ok w) (min n m) o u f λ l. ap (facing ok w n a b) (sym (add-one o)) ∙ g l)
-
--- a row of each block as the code reads it
-pub row_read : (ok : ℕ → ℕ → Bool) (hardblank : ℕ) (upper lower : List ℕ) (u l : Placed) (w r i : ℕ) → w ≤ u.width → w ≤ l.width →
-    every (λ c. ok (blanked hardblank (from_on upper (r * u.stride + u.base) c)) (blanked hardblank (from_on lower (i * l.stride + l.base) c))) w
-    ≡ every (λ c. ok (upright hardblank (placed_block upper u) c r) (upright hardblank (placed_block lower l) c i)) w
-row_read ok hardblank upper lower u l w r i p q =
-    every_cong (λ c. ok (blanked hardblank (from_on upper (r * u.stride + u.base) c)) (blanked hardblank (from_on lower (i * l.stride + l.base) c)))
-    (λ c. ok (upright hardblank (placed_block upper u) c r) (upright hardblank (placed_block lower l) c i)) w
-    λ c h. ap₂ ok (sym (cell_inside hardblank (placed_block upper u) c r (omega arith))) (sym (cell_inside hardblank (placed_block lower l) c i (omega arith)))
+  pub far_is : (o : ℕ) → o ≤ min n m → ((k : ℕ) → k ≤ o → facing ok w n a b k ≡ true) → (o < min n m → facing ok w n a b (o + 1) ≡ false) → o ≡ furthest ok w n m a b
+  far_is o u f g = sym (reach-is (facing ok w n a b) (facing-none n m a b ok w) (min n m) o u f λ l. ap (facing ok w n a b) (sym (add-one o)) ∙ g l)

@@ -1,3 +1,4 @@
 -- The meaning of two blocks one above the other.
 pub mod Stack
+pub mod Lying
 pub mod Placing

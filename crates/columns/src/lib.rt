@@ -3,29 +3,36 @@
 
 pub mod overlaps;
 
-ghost use Rattle.std.specs.Prelude.{◌≡◌, ◌<◌};
-ghost use Rattle.columns.specs.Stack.{upright};
-ghost use Rattle.columns.specs.Placing.{placed_block, PlacedIn};
+ghost use Rattle.columns.specs.Lying.{Lies};
 
 use subchars::SubCharacter;
 
-// Where a block lies in a slice: row r and column c at r * stride + base + c.
+// A block that lies in a slice: row r and column c at r * stride + base + c. Its rows are within the slice, and its sizes within the limits.
 #[derive(Clone, Copy)]
-pub struct Placed {
+pub struct Placed<'a> {
+    pub bytes: &'a [u8],
     pub base: usize,
     pub stride: usize,
     pub width: usize,
     pub height: usize,
+    pub ghost lies: { Lies bytes.now base stride width height },
 }
 
-// A sub-character of a block: the hardblank as a blank, and blanks on the right of the block.
-pub fn cell(s: &[u8], p: Placed, hardblank: SubCharacter, r: usize, c: usize) -> SubCharacter
-    requires placed_in { PlacedIn s.now p }
-    requires r_lt_height { r < p.height }
-    ensures { result.0 ≡ upright hardblank.0 (placed_block s.now p) c r }
-{
-    if c < p.width {
-        return subchars::blanked(SubCharacter(s[r * p.stride + p.base + c]), hardblank);
+impl<'a> Placed<'a> {
+    ghost use Rattle.std.specs.Prelude.{◌≡◌, ◌<◌};
+    ghost use Rattle.columns.specs.Placing.{placed_columns};
+
+    // A sub-character of a block: the hardblank as a blank, and blanks on the right of the block.
+    pub fn cell(self, hardblank: SubCharacter, r: usize, c: usize) -> SubCharacter
+        requires { r < self.height }
+        ensures { result.0 ≡ placed_columns hardblank.0 self.entry c r }
+    {
+        if c < self.width {
+            return subchars::blanked(
+                SubCharacter(self.bytes[r * self.stride + self.base + c]),
+                hardblank,
+            );
+        }
+        SubCharacter(b' ')
     }
-    SubCharacter(b' ')
 }

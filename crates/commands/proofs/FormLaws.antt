@@ -10,6 +10,7 @@ use lib.ListN.{drop}
 use lib.IntN.{nat_abs, ◌-ℤ◌}
 use lib.Signed.{le_z}
 use borrow.Author.Tests.{lt-ltb, ltb-true, eqb-true, eqb-false, ne_eqb}
+use Rattle.std.specs.Prelude.{Option, Some, None}
 use Rattle.ground.specs.Text.{byte, bytes, among}
 use Rattle.ground.specs.Runs.{run, all}
 use Rattle.ground.proofs.Tests.{and_left_false, and_right_false, clash}
@@ -18,16 +19,14 @@ use Rattle.lines.specs.Words.{is_blank, after_blanks}
 use Rattle.lines.specs.Numbers.{digit_of, is_digit, are_digits, number, minus_length, radix_of, code_number}
 use Rattle.commands.specs.declared.LineKind.{LineKind}
 use Rattle.commands.specs.declared.LineKind.TheVariants.{Comment, Mapping, NewStage, Extended, NotCommand, BadRanges}
-use Rattle.commands.specs.declared.characters.CodeStep.{CodeStep}
-use Rattle.commands.specs.declared.characters.CodeStep.TheVariants.{Written, NoCode}
+use Rattle.commands.specs.declared.characters.Written.{Written}
 use Rattle.commands.specs.declared.fields.Form.{Form}
 use Rattle.commands.specs.declared.fields.Form.TheVariants.{Characters, Numbers}
 use Rattle.commands.specs.declared.fields.Codes.{Codes}
 use Rattle.commands.specs.declared.fields.Codes.TheVariants.{One, Range}
-use Rattle.commands.specs.declared.fields.FieldStep.{FieldStep}
-use Rattle.commands.specs.declared.fields.FieldStep.TheVariants.{Field, NoField}
+use Rattle.commands.specs.declared.fields.Field.{Field}
 use Rattle.commands.specs.Characters.{number_length, leading_number}
-use Rattle.commands.specs.Fields.{number_only, field, good_ranges, mapping, ends_field, with_second, second_field, with_first, mapping_command}
+use Rattle.commands.specs.Fields.{field_of, number_only, field, good_ranges, mapping, ends_field, with_second, second_field, with_first, mapping_command}
 use Rattle.commands.specs.Commands.{is_extended, translation, line_kind}
 use Rattle.commands.proofs.KindLaws.{extended_letter}
 
@@ -66,14 +65,14 @@ module _ (a b c d : Code) where
 -- may follow".
 abbrev pub TwoFields : Form → List ℕ → Codes → Codes → Type 0
 TwoFields form t one two =
-    (n m : ℕ) × (field form t ≡ Field one n) × (0 < run is_blank (drop n t)) × (field form (after_blanks (drop n t)) ≡ Field two m) × (ends_field (drop m (after_blanks (drop n t))) ≡ true)
+    (n m : ℕ) × (field form t ≡ Some (field_of one n)) × (0 < run is_blank (drop n t)) × (field form (after_blanks (drop n t)) ≡ Some (field_of two m)) × (ends_field (drop m (after_blanks (drop n t))) ≡ true)
 
 fields_give : (form : Form) (t : List ℕ) (one two : Codes) → TwoFields form t one two → mapping_command form t ≡ mapping one two
 unfolding mapping_command second_field
 fields_give form t one two w =
     let u = after_blanks (drop w.0 t) in
-    ap (λ (x : FieldStep). with_first form x t) w.2 ∙ ap (λ (b : Bool). cond b (second_field form one u) NotCommand) (lt-ltb 0 (run is_blank (drop w.0 t)) w.3) ∙
-    ap (λ (x : FieldStep). with_second one x u) w.4 ∙ ap (λ (b : Bool). cond b (mapping one two) NotCommand) w.5
+    ap (λ (x : Option Field). with_first form x t) w.2 ∙ ap (λ (b : Bool). cond b (second_field form one u) NotCommand) (lt-ltb 0 (run is_blank (drop w.0 t)) w.3) ∙
+    ap (λ (x : Option Field). with_second one x u) w.4 ∙ ap (λ (b : Bool). cond b (mapping one two) NotCommand) w.5
 
 data Fielded (form : Form) (t : List ℕ) : LineKind → Type 0 where
   fielded : (one two : Codes) → TwoFields form t one two → Fielded form t (mapping one two)
@@ -83,23 +82,23 @@ fields_of : (form : Form) (t : List ℕ) → Fielded form t (mapping_command for
 unfolding mapping_command second_field
 fields_of form t = from_first (field form t) refl
   where
-    ended : (one two : Codes) (n m : ℕ) → field form t ≡ Field one n → 0 < run is_blank (drop n t) → field form (after_blanks (drop n t)) ≡ Field two m → (b : Bool) →
+    ended : (one two : Codes) (n m : ℕ) → field form t ≡ Some (field_of one n) → 0 < run is_blank (drop n t) → field form (after_blanks (drop n t)) ≡ Some (field_of two m) → (b : Bool) →
         ends_field (drop m (after_blanks (drop n t))) ≡ b → Fielded form t (cond b (mapping one two) NotCommand)
     ended one two n m p h q true e = fielded one two (n, m, p, h, q, e)
     ended one two n m p h q false e = unfielded
 
-    from_second : (one : Codes) (n : ℕ) → field form t ≡ Field one n → 0 < run is_blank (drop n t) → (r : FieldStep) → field form (after_blanks (drop n t)) ≡ r →
+    from_second : (one : Codes) (n : ℕ) → field form t ≡ Some (field_of one n) → 0 < run is_blank (drop n t) → (r : Option Field) → field form (after_blanks (drop n t)) ≡ r →
         Fielded form t (with_second one r (after_blanks (drop n t)))
-    from_second one n p h (Field two m) q = ended one two n m p h q (ends_field (drop m (after_blanks (drop n t)))) refl
-    from_second one n p h NoField q = unfielded
+    from_second one n p h (Some f) q = ended one f.codes n f.length p h q (ends_field (drop f.length (after_blanks (drop n t)))) refl
+    from_second one n p h None q = unfielded
 
-    parted : (one : Codes) (n : ℕ) → field form t ≡ Field one n → (b : Bool) → ltb 0 (run is_blank (drop n t)) ≡ b → Fielded form t (cond b (second_field form one (after_blanks (drop n t))) NotCommand)
+    parted : (one : Codes) (n : ℕ) → field form t ≡ Some (field_of one n) → (b : Bool) → ltb 0 (run is_blank (drop n t)) ≡ b → Fielded form t (cond b (second_field form one (after_blanks (drop n t))) NotCommand)
     parted one n p true b = from_second one n p (ltb-true 0 (run is_blank (drop n t)) b) (field form (after_blanks (drop n t))) refl
     parted one n p false b = unfielded
 
-    from_first : (r : FieldStep) → field form t ≡ r → Fielded form t (with_first form r t)
-    from_first (Field one n) p = parted one n p (ltb 0 (run is_blank (drop n t))) refl
-    from_first NoField p = unfielded
+    from_first : (r : Option Field) → field form t ≡ r → Fielded form t (with_first form r t)
+    from_first (Some f) p = parted f.codes f.length p (ltb 0 (run is_blank (drop f.length t))) refl
+    from_first None p = unfielded
 
 -- The forms of a line, and the kind of each. "Commands start at the first byte."
 pub data LineForm : List ℕ → LineKind → Type 0 where
@@ -123,10 +122,10 @@ pub data LineForm : List ℕ → LineKind → Type 0 where
   numbers : {t : List ℕ} {code new : Code} → TwoFields Numbers t (One code) (One new) → LineForm t (Mapping code code new)
 
 -- A line that begins with a number begins with none of the bytes that tell the other forms.
-module _ (x : ℕ) (xs : List ℕ) (one : Codes) (n : ℕ) (p : field Numbers (x ∷ xs) ≡ Field one n) where
-  not_first : (k : ℕ) → leading_number (k ∷ xs) ≡ NoCode → eqb x k ≡ false
+module _ (x : ℕ) (xs : List ℕ) (one : Codes) (n : ℕ) (p : field Numbers (x ∷ xs) ≡ Some (field_of one n)) where
+  not_first : (k : ℕ) → leading_number (k ∷ xs) ≡ None → eqb x k ≡ false
   unfolding field
-  not_first k e = ne_eqb x k (λ q. let z : number_only NoCode ≡ Field one n = sym (ap number_only e) ∙ ap (λ (y : ℕ). number_only (leading_number (y ∷ xs))) (sym q) ∙ p in clash (cc))
+  not_first k e = ne_eqb x k (λ q. let z : number_only None ≡ Some (field_of one n) = sym (ap number_only e) ∙ ap (λ (y : ℕ). number_only (leading_number (y ∷ xs))) (sym q) ∙ p in clash (cc))
 
   numbers_kind : line_kind (x ∷ xs) ≡ mapping_command Numbers (x ∷ xs)
   unfolding line_kind is_extended all is_blank leading_number number_length minus_length radix_of run is_digit digit_of code_number number are_digits
@@ -172,13 +171,16 @@ data Formed (t : List ℕ) : LineKind → Type 0 where
   formed : {kind : LineKind} → LineForm t kind → Formed t kind
   unformed : Formed t NotCommand
 
-one_number : (t : List ℕ) (a b : Code) (n : ℕ) → field Numbers t ≡ Field (Range a b) n → ⊥
+one_number : (t : List ℕ) (a b : Code) (n : ℕ) → field Numbers t ≡ Some (field_of (Range a b) n) → ⊥
 unfolding field
 one_number t a b n p = go (leading_number t) p
   where
-    go : (r : CodeStep) → number_only r ≡ Field (Range a b) n → ⊥
-    go (Written c m) q = clash (cc)
-    go NoCode q = clash (cc)
+    go : (r : Option Written) → number_only r ≡ Some (field_of (Range a b) n) → ⊥
+    go (Some w) q =
+        let e : field_of (One w.code) w.length ≡ field_of (Range a b) n = cc in
+        let g : One w.code ≡ Range a b = ap (λ (x : Field). x.codes) e in
+        clash (cc)
+    go None q = clash (cc)
 
 of_numbers : (t : List ℕ) (kind : LineKind) → Fielded Numbers t kind → Formed t kind
 of_numbers t _ (fielded (One a) (One b) w) = formed (numbers w)

@@ -17,7 +17,7 @@ use Rattle.blocks.specs.Block.{Block}
 use Rattle.showing.specs.Output.{output_of}
 use Rattle.bothfiles.specs.declared.Files.{Files}
 use Rattle.bothfiles.specs.declared.Files.TheVariants as files
-use Rattle.showing.specs.declared.PutAnswer.TheVariants as put
+use Rattle.std.specs.Prelude.{Ok, Err}
 use Rattle.source.specs.declared.Counts.{Counts}
 use Rattle.drawing.specs.declared.DrawAnswer.{DrawAnswer}
 use Rattle.drawing.specs.declared.DrawAnswer.TheVariants.{Drawn, Refused}
@@ -40,7 +40,7 @@ record Fits (h w room : ℕ) : Type 0 where
   pub narrow : w ≤ max_line_width
   pub inside : h * (w + 1) ≤ room
 
-answer_cases : (p q : Bool) (v w : ℕ) (m n : Counts) → Drawn w n ≡ with_counts m (cond p (put.Refused (refusal line_too_wide 0)) (cond q (put.Refused (refusal area_too_small 0)) (put.Put v))) → (p ≡ false) × (q ≡ false) × (w ≡ v)
+answer_cases : (p q : Bool) (v w : ℕ) (m n : Counts) → Drawn w n ≡ with_counts m (cond p (Err (refusal line_too_wide 0)) (cond q (Err (refusal area_too_small 0)) (Ok v))) → (p ≡ false) × (q ≡ false) × (w ≡ v)
 answer_cases true q v w m n e = let z : ◌≡◌ {A = ℕ} 0 1 = cc in absurd (omega arith)
 answer_cases false true v w m n e = let z : ◌≡◌ {A = ℕ} 0 1 = cc in absurd (omega arith)
 answer_cases false false v w m n e = (refl, refl, cc)

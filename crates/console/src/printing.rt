@@ -6,8 +6,8 @@ ghost use Rattle.console.specs.Rows.{height_of, RowsFit};
 
 use bothfiles::Files;
 use drawing::DrawAnswer;
-use ground::refusals::Refusal;
-use ground::{limits, refusals};
+use ground::limits;
+use ground::refusals::{Reason, Refusal};
 use std::io;
 
 // Room for the largest output: 32 rows of 1,000 columns, each with its LF.
@@ -15,7 +15,7 @@ const ROOM: usize = limits::MAX_HEIGHT * (limits::MAX_LINE_WIDTH + 1);
 
 // "A refused line prints `refused`, a blank, the number, ` at `, the place, LF."
 fn print_refusal(rt: &impl Print, r: Refusal) -> io::Result<()> {
-    println!(rt; "refused {} at {}", r.number, r.place)
+    println!(rt; "refused {} at {}", r.reason.number(), r.place)
 }
 
 fn height_of(files: Files) -> usize
@@ -94,7 +94,7 @@ pub(crate) fn print_line(
     ) {
         DrawAnswer::Drawn { width, counts: _ } => print_rows(rt, out, files, width),
         DrawAnswer::Refused(r) => {
-            if r.number == refusals::AREA_TOO_SMALL {
+            if r.reason == Reason::AreaTooSmall {
                 print_wide(
                     rt, area, text, font, files, codes, starts, widths, places, stages, firsts,
                     lasts, news,

@@ -1,10 +1,10 @@
 -- The call `read_control`: what it answers and what its four lists hold, for every input.
 -- Assumes nothing.
-use Rattle.std.specs.Prelude.{◌≡◌, ℕ, min, Bool, true, false, cond, List, ltb, length}
+use Rattle.std.specs.Prelude.{◌≡◌, ℕ, min, Bool, true, false, cond, List, ltb, length, Result, Ok, Err}
 use Rattle.ground.specs.Limits.{max_commands}
-use Rattle.ground.specs.Refusals.{refusal, area_too_small}
-use Rattle.flc.specs.declared.ControlAnswer.{ControlAnswer}
-use Rattle.flc.specs.declared.ControlAnswer.TheVariants.{Read, Refused}
+use Rattle.ground.specs.Refusals.{refusal, number_of, area_too_small}
+use Rattle.ground.specs.declared.refusals.Refusal.{Refusal}
+use Rattle.flc.specs.declared.ControlRead as counts
 use Rattle.flc.specs.Control.{ControlReading, refuses, control}
 use Rattle.flc.specs.Lists.{control_answer, CommandLists, lists_of}
 
@@ -24,14 +24,14 @@ pub record ControlTold : Type 0 where
   pub commands : ℕ
   pub stages : ℕ
 
-abbrev pub control_tells : ControlAnswer → ControlTold
-control_tells (Read n k) = record { refused = false; number = 0; place = 0; commands = n; stages = k }
-control_tells (Refused r) = record { refused = true; number = r.number; place = r.place; commands = 0; stages = 0 }
+abbrev pub control_tells : Result counts.ControlRead Refusal → ControlTold
+control_tells (Ok r) = record { refused = false; number = 0; place = 0; commands = r.commands; stages = r.stages }
+control_tells (Err r) = record { refused = true; number = number_of r.reason; place = r.place; commands = 0; stages = 0 }
 
 abbrev pub control_told : ControlReading → ControlTold
 control_told x = control_tells (control_answer x)
 
 -- What the call answers, and all that its four lists hold.
-pub record ControlRead (s : List ℕ) (lent : CommandLists) (r : ControlAnswer) (left : CommandLists) : Type 0 where
+pub record ControlRead (s : List ℕ) (lent : CommandLists) (r : Result counts.ControlRead Refusal) (left : CommandLists) : Type 0 where
   pub answer : control_tells r ≡ control_told (control_reading lent s)
   pub lists : left ≡ lists_of (control_reading lent s) lent

@@ -6,17 +6,9 @@ ghost use Rattle.flc.specs.Lists.{command_lists};
 ghost use Rattle.controlcalls.specs.ControlCall.{ControlRead};
 ghost use Rattle.controlcalls.specs.MapCall.{map_tells, map_told};
 
-use flc::ControlAnswer;
-use ground::refusals::Refusal;
-use ground::{limits, refusals};
+use ground::limits;
+use ground::refusals::{Reason, Refusal};
 use subchars::Code;
-
-// What mapping a code answers: the new code, or a refusal of the control file.
-#[derive(Clone, Copy)]
-pub enum MapAnswer {
-    Mapped(Code),
-    Refused(Refusal),
-}
 
 // Reads a control file into four lists of 256 entries or more, with zeros behind: each mapping command's stage, first and last code, and first
 // new code. The answer counts commands and stages. A refusal (9 to 14) leaves the lists all zeros.
@@ -26,17 +18,17 @@ pub fn read_control(
     firsts: &mut [i32],
     lasts: &mut [i32],
     news: &mut [i32],
-) -> ControlAnswer
+) -> Result<flc::ControlRead, Refusal>
     ensures { ControlRead control.now (command_lists stages.old firsts.old lasts.old news.old) result (command_lists stages.new firsts.new lasts.new news.new) }
 {
-    let a = ground::smaller(stages.len(), firsts.len());
-    let b = ground::smaller(lasts.len(), news.len());
-    if ground::smaller(a, b) < limits::MAX_COMMANDS {
+    let room = stages
+        .len()
+        .min(firsts.len())
+        .min(lasts.len())
+        .min(news.len());
+    if room < limits::MAX_COMMANDS {
         return flc::refuse(
-            Refusal {
-                number: refusals::AREA_TOO_SMALL,
-                place: 0,
-            },
+            Refusal::of(Reason::AreaTooSmall),
             stages,
             firsts,
             lasts,
@@ -47,18 +39,13 @@ pub fn read_control(
 }
 
 // Maps a code by a control file, stage after stage. Refusals are those of the file (10 to 14).
-pub fn map_code(control: &[u8], code: Code) -> MapAnswer
+pub fn map_code(control: &[u8], code: Code) -> Result<Code, Refusal>
     ensures answer { map_tells result ≡ map_told control.now code }
 {
     let mut stages = [0usize; limits::MAX_COMMANDS];
     let mut firsts = [0i32; limits::MAX_COMMANDS];
     let mut lasts = [0i32; limits::MAX_COMMANDS];
     let mut news = [0i32; limits::MAX_COMMANDS];
-    match flc::read_lists(control, &mut stages, &mut firsts, &mut lasts, &mut news) {
-        ControlAnswer::Read {
-            commands,
-            stages: _,
-        } => MapAnswer::Mapped(mapping::map_by(&stages, &firsts, &lasts, &news, commands, code)),
-        ControlAnswer::Refused(r) => MapAnswer::Refused(r),
-    }
+    let read = flc::read_lists(control, &mut stages, &mut firsts, &mut lasts, &mut news)?;
+    Ok(mapping::map_by(&stages, &firsts, &lasts, &news, read.commands, code))
 }

@@ -3,13 +3,19 @@
 use mathlib.Core.Path.{◌≡◌, refl, sym, ◌∙◌, ap}
 use mathlib.Core.Bool.{Bool, true, false, cond, not}
 use mathlib.Core.List.{List, [], ◌∷◌, ◌++◌, append-nil, append_assoc}
-use Prim.Native.Nat.{ℕ, suc, ◌+◌, ◌-◌, ◌≤◌, ◌<◌}
+use Prim.Native.Nat.{ℕ, suc, ◌+◌, ◌-◌, ◌≤◌, ◌<◌, min}
 use native.Mathlib.Omega.{arith}
 use native.Mathlib.Numerals.{add-one}
-use lib.ListN.{length, take, drop, get_or, set, length-take}
-use lib.Seq.{take_all, take-suc-set, drop-cons, take-append-le, length-take-le}
-use borrow.Author.Tests.{eq-eqb, ne_eqb}
-use Rattle.ground.specs.Text.{byte, is_lf}
+use lib.ListN.{length, take, drop, length-take}
+use lib.Seq.{take_all, take-take}
+use lib.Dec.{ltb}
+use borrow.Author.Tests.{lt-ltb, le-ltb}
+use native.Mathlib.Decide.{dec_lt}
+use Rattle.std.specs.Prelude.{Some, None, unwrap_or}
+use Rattle.std.specs.List.{position_or_len}
+use Rattle.std.proofs.Math.Seq.{take-append_seam, take-append-add}
+use Rattle.ground.proofs.Runs.{run_le}
+use Rattle.ground.specs.Text.{is_lf}
 use Rattle.ground.specs.Runs.{run}
 use Rattle.cutting.specs.Cut.{not_lf}
 use Rattle.cutting.specs.Parts.{most_kept, clipped, ended, begun, Steps}
@@ -66,30 +72,42 @@ module _ (held : ℕ) (line₀ line part : List ℕ) (end n : ℕ) (few : held �
       let e = step_begun part (take held line₀) begun-few (rw found at h) in
       (kept.0, e.0, e.1 ∙ sym (rw found at kept.1))
 
--- The test of one byte.
-pub is_lf_lem : (x : ℕ) → x ≡ byte "\n" → not_lf x ≡ false
-unfolding not_lf
-is_lf_lem x e = ap not (eq-eqb x (byte "\n") e)
+-- The place of the first LF, or the end where there is none.
+first-lf : (s : List ℕ) → position_or_len is_lf s ≡ run not_lf s
+unfolding run not_lf
+first-lf [] = refl
+first-lf (x ∷ xs) = go (not (is_lf x)) (first-lf xs)
+  where
+    go : {m n : ℕ} (b : Bool) → m ≡ n → cond b (1 + m) 0 ≡ cond b (suc n) 0
+    go true e = omega (arith, e)
+    go false e = refl
 
-pub no_lf : (x : ℕ) → (x ≡ byte "\n" → ⊥) → not_lf x ≡ true
-unfolding not_lf
-no_lf x e = ap not (ne_eqb x (byte "\n") e)
+found-or-end : (n m : ℕ) → n ≤ m → unwrap_or (cond (ltb n m) (Some n) None) m ≡ n
+found-or-end n m h =
+    elim (dec_lt n m) [
+      | yes l ↦ rw (lt-ltb n m l)
+      | no l ↦ rw (le-ltb n m (omega arith)) (omega arith)
+    ]
 
--- A byte moves from the part to the line.
-pub keep_more : (l s : List ℕ) (n i end : ℕ) → n < length l → i < length s → i < end → take (n + 1) (set l n (get_or s i 0)) ++ take (end - (i + 1)) (drop (i + 1) s) ≡ take n l ++ take (end - i) (drop i s)
-keep_more l s n i end h u v =
-    let e : end - i ≡ suc (end - (i + 1)) = omega arith in
-    rw (e, drop-cons s i 0 u, add-one n, take-suc-set l n (get_or s i 0) h, append_assoc, add-one i)
+pub first-or-end : (s : List ℕ) → unwrap_or (cond (ltb (position_or_len is_lf s) (length s)) (Some (position_or_len is_lf s)) None) (length s) ≡ run not_lf s
+first-or-end s = rw (first-lf s) (found-or-end (run not_lf s) (length s) (run_le not_lf s))
 
-pub keep_full : (l r : List ℕ) → most_kept ≤ length l → clipped (take most_kept l ++ r) ≡ take most_kept l
-keep_full l r h =
-    let n = length-take-le most_kept l h in
-    take-append-le most_kept (take most_kept l) r (omega (arith, n)) ∙ take_all most_kept (take most_kept l) (omega (arith, n))
+-- What is copied behind the bytes that are kept stands behind them,
+pub copied-behind : (p ys rest : List ℕ) (a n : ℕ) → length p ≡ a → length ys ≡ n → take (a + n) (p ++ (ys ++ rest)) ≡ p ++ ys
+copied-behind p ys rest a n e f = rw (sym e, sym f) (take-append-add p (ys ++ rest) (length ys) ∙ ap (λ (t : List ℕ). p ++ t) (take-append_seam ys rest))
 
-pub keep_done : (l s : List ℕ) (n i end : ℕ) → n ≤ most_kept → n ≤ length l → i ≡ end → clipped (take n l ++ take (end - i) (drop i s)) ≡ take n l
-keep_done l s n i end h u e =
-    let z : end - i ≡ 0 = omega arith in
-    rw (z, append-nil) (clipped-all (take n l) (omega (arith, length-take-le n l u)))
+-- and of bytes behind p as many are kept as there is room for.
+take-both : (s : List ℕ) (n m : ℕ) → take n (take m s) ≡ take (min m n) s
+take-both s n m =
+    elim (dec_lt n m) [
+      | yes l ↦ let e : min m n ≡ n = omega arith in rw e (take-take n m s (omega arith))
+      | no l ↦ let e : min m n ≡ m = omega arith in rw e (take_all n (take m s) (omega (arith, length-take m s)))
+    ]
+
+pub clipped-behind : (p s : List ℕ) (a end : ℕ) → length p ≡ a → a ≤ most_kept → p ++ take (min end (most_kept - a)) s ≡ clipped (p ++ take end s)
+clipped-behind p s a end e h =
+    let m : most_kept ≡ length p + (most_kept - a) = omega arith in
+    ap (λ (t : List ℕ). p ++ t) (sym (take-both s (most_kept - a) end)) ∙ sym (ap (λ (n : ℕ). take n (p ++ take end s)) m ∙ take-append-add p (take end s) (most_kept - a))
 
 -- What a caller reads off an answer.
 pub step_ends : (p part line : List ℕ) (r : Step) (m next : ℕ) → r ≡ Ended m next → Steps p part line r → (m ≤ most_kept) × (0 < next) × (next ≤ length part)

@@ -24,14 +24,7 @@ pub enum Step {
 fn line_end(part: &[u8]) -> usize
     ensures { result ≡ run not_lf part.now }
 {
-    let mut i: usize = 0;
-    while i < part.len() {
-        if part[i] == b'\n' {
-            return i;
-        }
-        i += 1;
-    }
-    i
+    part.iter().position(|b| *b == b'\n').unwrap_or(part.len())
 }
 
 // Adds the part's bytes before `end` to a line of which `held` are kept; those past the most are dropped. Answers how many are kept.
@@ -39,17 +32,9 @@ fn keep(line: &mut [u8], held: usize, part: &[u8], end: usize) -> usize
     requires { (held ≤ most_kept) × (most_kept ≤ length line.old) × (end ≤ length part.now) }
     ensures { (result ≤ most_kept) × (take result line.new ≡ clipped (take held line.old ++ take end part.now)) }
 {
-    let mut n = held;
-    let mut i: usize = 0;
-    while i < end {
-        if n == MOST_KEPT {
-            return n;
-        }
-        line[n] = part[i];
-        n += 1;
-        i += 1;
-    }
-    n
+    let n = end.min(MOST_KEPT - held);
+    line[held..held + n].copy_from_slice(&part[..n]);
+    held + n
 }
 
 // The next line of a part, where `held` bytes are kept of the line that the part goes on with. It lies in the first bytes of `line`.

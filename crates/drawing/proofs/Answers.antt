@@ -13,7 +13,8 @@ use borrow.Author.Tests.{ltb-true, ltb-false}
 use Rattle.ground.specs.Area.{padded}
 use Rattle.ground.specs.Text.{byte}
 use Rattle.ground.specs.Limits.{max_line_width, max_text, min_scratch}
-use Rattle.ground.specs.Refusals.{refusal, too_many_characters, area_too_small, control_file_too_long, too_many_commands, text_too_long, line_too_wide}
+use Rattle.ground.specs.Refusals.{refusal, number_of, too_many_characters, area_too_small, control_file_too_long, too_many_commands, text_too_long, line_too_wide}
+use Rattle.ground.specs.declared.refusals.Reason.{Reason}
 use Rattle.ground.specs.declared.refusals.Refusal.{Refusal}
 use Rattle.ground.proofs.Areas.{padded-at}
 use Rattle.subchars.specs.Hardblank.{blanked}
@@ -28,7 +29,7 @@ use Rattle.font.proofs.ReadingLaws.{font_refusal}
 use Rattle.flc.specs.declared.Command.{Command}
 use Rattle.flc.specs.Control as flc
 use Rattle.flc.proofs.RefusalLaws.{control-refusal}
-use Rattle.showing.specs.declared.PutAnswer.{PutAnswer}
+use Rattle.std.specs.Prelude.{Result}
 use Rattle.source.specs.declared.Counts.{Counts}
 use Rattle.drawing.specs.declared.DrawAnswer.{DrawAnswer}
 use Rattle.drawing.specs.declared.DrawAnswer.TheVariants.{Drawn, Refused}
@@ -173,11 +174,11 @@ module _ (size : ℕ) (s control text : List ℕ) (room : ℕ) where
   abbrev Told : DrawAnswer → Type 0
   Told (Drawn w n) = DrawnAs w n
   Told (Refused r) =
-      (r.number ≤ too_many_characters → FontFor r) ×
-      (control_file_too_long ≤ r.number → r.number ≤ too_many_commands → ControlFor r) ×
-      (r.number ≡ text_too_long → TooLong r.place) ×
-      (r.number ≡ line_too_wide → TooWide r.place) ×
-      (r.number ≡ area_too_small → TooSmall r.place)
+      (number_of r.reason ≤ number_of too_many_characters → FontFor r) ×
+      (number_of control_file_too_long ≤ number_of r.reason → number_of r.reason ≤ number_of too_many_commands → ControlFor r) ×
+      (number_of r.reason ≡ number_of text_too_long → TooLong r.place) ×
+      (number_of r.reason ≡ number_of line_too_wide → TooWide r.place) ×
+      (number_of r.reason ≡ number_of area_too_small → TooSmall r.place)
 
   told : (a : DrawAnswer) → DrawsTo a → Told a
   told _ (scratch_small u) = (λ e. absurd (omega arith), λ e f. absurd (omega arith), λ e. absurd (omega arith), λ e. absurd (omega arith), λ e. (refl, inl u))
@@ -198,13 +199,13 @@ module _ (size : ℕ) (s control text : List ℕ) (room : ℕ) where
   tells : (a : DrawAnswer) → answer ≡ a → Told a
   tells a e = told a (subst DrawsTo e one_of)
 
-  refused-at : (number p : ℕ) → p ≡ 0 → answer ≡ Refused (refusal number 0) → answer ≡ Refused (refusal number p)
-  refused-at number p e a = subst (λ (q : ℕ). answer ≡ Refused (refusal number q)) (sym e) a
+  refused-at : (reason : Reason) (p : ℕ) → p ≡ 0 → answer ≡ Refused (refusal reason 0) → answer ≡ Refused (refusal reason p)
+  refused-at reason p e a = subst (λ (q : ℕ). answer ≡ Refused (refusal reason q)) (sym e) a
 
-  pub row_font : (r : Refusal) → r.number ≤ too_many_characters → answer ≡ Refused r ↔ FontFor r
+  pub row_font : (r : Refusal) → number_of r.reason ≤ number_of too_many_characters → answer ≡ Refused r ↔ FontFor r
   row_font r u = (λ e. (tells _ e).0 u, λ w. gives _ (font_refused w.0 r w.1))
 
-  pub row-control : (r : Refusal) → control_file_too_long ≤ r.number → r.number ≤ too_many_commands → answer ≡ Refused r ↔ ControlFor r
+  pub row-control : (r : Refusal) → number_of control_file_too_long ≤ number_of r.reason → number_of r.reason ≤ number_of too_many_commands → answer ≡ Refused r ↔ ControlFor r
   row-control r u v = (λ e. (tells _ e).1 u v, λ w. gives _ (control-refused w.0 w.1 w.2 w.3 r w.4))
 
   pub row_15 : (p : ℕ) → answer ≡ Refused (refusal text_too_long p) ↔ TooLong p
@@ -235,7 +236,7 @@ module _ (size : ℕ) (s control text : List ℕ) (room : ℕ) where
     unfolding bytes_of output_bytes mode_of
     bytes_are =
         ap (λ (l : Lined). bytes_of l room) (is-lined x t) ∙
-        ap (λ (a : PutAnswer). put_only a (shown hardblank x.header.height (line_by x))) (sym (drawn 0 x.header.height (line_by x) room w m))
+        ap (λ (a : Result ℕ Refusal). put_only a (shown hardblank x.header.height (line_by x))) (sym (drawn 0 x.header.height (line_by x) room w m))
 
     at_place : (r k : ℕ) → r < x.header.height → k < (line_by x).width + 1 → get_or output (r * ((line_by x).width + 1) + k) 0 ≡ get_or (shown hardblank x.header.height (line_by x)) (r * ((line_by x).width + 1) + k) 0
     at_place r k u v =

@@ -24,7 +24,7 @@ use Rattle.chars.specs.declared.Entry.{Entry}
 use Rattle.font.specs.Font as font
 use Rattle.flc.specs.declared.Command.{Command}
 use Rattle.flc.specs.Control as flc
-use Rattle.showing.specs.declared.PutAnswer.{PutAnswer}
+use Rattle.std.specs.Prelude.{Result}
 use Rattle.source.specs.declared.Counts.{Counts}
 use Rattle.source.specs.Source.{Source, font_source}
 use Rattle.source.specs.Counting.{counts_of}
@@ -73,7 +73,7 @@ module _ (y : Mode) (h : ℕ) (source : Source) (codes : List Code) (w : ℕ) (c
         | no l ↦ ap (λ (n : Counts). with_counts n (output_of h line room)) (are (omega arith))
       ]
 
-  pub lined_out : (a : DrawAnswer) (p : PutAnswer) (out : List ℕ) → a ≡ with_counts counts p → p ≡ output_of h held room → out ≡ padded (output_bytes y.hardblank.0 h held room) room → PutOut (lined_text y h source codes) room a out
+  pub lined_out : (a : DrawAnswer) (p : Result ℕ Refusal) (out : List ℕ) → a ≡ with_counts counts p → p ≡ output_of h held room → out ≡ padded (output_bytes y.hardblank.0 h held room) room → PutOut (lined_text y h source codes) room a out
   unfolding lined_answer bytes_of
   lined_out a p out f e b = record { answers = f ∙ ap (with_counts counts) (e ∙ same-output) ∙ same-counts; holds = b ∙ same_bytes y.hardblank.0 }
 

@@ -1,7 +1,7 @@
 -- Drawing a line of text: document 01, "Join and drawing". "Drawing maps each text byte's code, looks it up, and joins in turn." Five steps, from the
 -- bytes of the text to the bytes that are put out.
 -- Assumes nothing.
-use Rattle.std.specs.Prelude.{◌≡◌, ℕ, cond, List, [], ◌∷◌, map, ltb, pos, length}
+use Rattle.std.specs.Prelude.{◌≡◌, ℕ, cond, List, [], ◌∷◌, map, ltb, pos, length, Option, Some, None, Result, Ok, Err}
 use Rattle.ground.specs.Area.{padded}
 use Rattle.ground.specs.Refusals.{refusal, area_too_small, text_too_long}
 use Rattle.ground.specs.declared.refusals.Refusal.{Refusal}
@@ -12,12 +12,8 @@ use Rattle.subchars.specs.declared.Direction.TheVariants.{LeftToRight}
 use Rattle.subchars.specs.declared.Mode.{Mode}
 use Rattle.subchars.specs.Layouts.{print_direction_of}
 use Rattle.blocks.specs.Block.{Block}
-use Rattle.showing.specs.declared.PutAnswer.{PutAnswer}
-use Rattle.showing.specs.declared.PutAnswer.TheVariants as put
 use Rattle.figure.specs.Line.{empty, line_from, overlaps_from}
 use Rattle.showing.specs.Output.{output_of, output_bytes}
-use Rattle.header.specs.declared.Given.{Given}
-use Rattle.header.specs.declared.Given.TheVariants.{Absent, Of}
 use Rattle.header.specs.declared.Header.{Header}
 use Rattle.chars.specs.declared.Entry.{Entry}
 use Rattle.chars.specs.Codes.{code}
@@ -73,9 +69,9 @@ trace_of y h source codes =
     record { characters = cs; overlaps = overlaps_from y h empty cs }
 
 -- How a font's characters are joined.
-abbrev pub direction_of : Given → Direction
-direction_of Absent = LeftToRight
-direction_of (Of n) = print_direction_of n
+abbrev pub direction_of : Option ℕ → Direction
+direction_of None = LeftToRight
+direction_of (Some n) = print_direction_of n
 
 unfoldable pub mode_of : Header → Mode
 mode_of h = record { layout = h.layout; direction = direction_of h.print_direction; hardblank = h.hardblank }
@@ -127,9 +123,9 @@ unfoldable pub draw_lined : ℕ → List ℕ → List ℕ → List ℕ → Lined
 draw_lined scratch s control text = cond (ltb scratch min_scratch) (unlined (refusal area_too_small 0)) (lined_of s control text)
 
 -- 5. "The output is each row with hardblanks as blanks, then LF; the answer gives the width." 02, Q-2: and both counts, which a refusal has not.
-abbrev pub with_counts : Counts → PutAnswer → DrawAnswer
-with_counts n (put.Put w) = Drawn w n
-with_counts n (put.Refused r) = Refused r
+abbrev pub with_counts : Counts → Result ℕ Refusal → DrawAnswer
+with_counts n (Ok w) = Drawn w n
+with_counts n (Err r) = Refused r
 
 unfoldable pub lined_answer : Lined → ℕ → DrawAnswer
 lined_answer (unlined r) room = Refused r

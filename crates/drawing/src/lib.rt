@@ -16,12 +16,10 @@ ghost use Rattle.source.specs.Steps.{ChosenAs, PickedAs};
 ghost use Rattle.drawing.specs.Drawing.{direction_of, mode_of, text_codes, byte_choice, line_of, Lined, lined_text, lined_from, with_counts, PutOut};
 ghost use Rattle.drawing.specs.Steps.{with_character, Reached, TextDrawn};
 
-use flc::ControlAnswer;
 use fontlists::two;
-use ground::refusals::Refusal;
-use ground::{limits, refusals};
-use header::{Given, Header};
-use showing::PutAnswer;
+use ground::limits;
+use ground::refusals::{Reason, Refusal};
+use header::Header;
 use source::{Chosen, Counts, Origin, Picked};
 use subchars::{Code, Direction, Mode};
 
@@ -40,12 +38,12 @@ pub struct DrawnText {
 }
 
 // The direction of a header: left to right where Print_Direction is absent.
-fn direction_of(given: Given) -> Direction
+fn direction_of(given: Option<usize>) -> Direction
     ensures { result ≡ direction_of given }
 {
     match given {
-        Given::Absent => Direction::LeftToRight,
-        Given::Of(n) => Direction::from_print(n),
+        None => Direction::LeftToRight,
+        Some(n) => Direction::from_print(n),
     }
 }
 
@@ -186,12 +184,12 @@ pub fn refuse(r: Refusal, out: &mut [u8]) -> DrawAnswer
 }
 
 // The counts beside the answer of putting out; none beside a refusal.
-fn with_counts(counts: Counts, answer: PutAnswer) -> DrawAnswer
+fn with_counts(counts: Counts, answer: Result<usize, Refusal>) -> DrawAnswer
     ensures { result ≡ with_counts counts answer }
 {
     match answer {
-        PutAnswer::Put(width) => DrawAnswer::Drawn { width, counts },
-        PutAnswer::Refused(r) => DrawAnswer::Refused(r),
+        Ok(width) => DrawAnswer::Drawn { width, counts },
+        Err(r) => DrawAnswer::Refused(r),
     }
 }
 
@@ -237,8 +235,7 @@ pub fn draw_from<'a>(
     ensures { (source : Source) → Gives source font.now second.now height origin codes.now starts.now widths.now places.now → (control : List ℕ) → ControlHeld control commands stages.now firsts.now lasts.now news.now → PutOut (lined_from mode height source (flc.control control) text.now) (length out.old) result out.new }
 {
     if limits::MAX_TEXT < text.len() {
-        let number = refusals::TEXT_TOO_LONG;
-        return refuse(Refusal { number, place: 0 }, out);
+        return refuse(Refusal::of(Reason::TextTooLong), out);
     }
     let limit = limits::MAX_LINE_WIDTH;
     let drawn = join_text(
@@ -277,13 +274,25 @@ pub fn draw_mapped<'a>(
     let mut lasts = [0i32; limits::MAX_COMMANDS];
     let mut news = [0i32; limits::MAX_COMMANDS];
     match flc::read_lists(control, &mut stages, &mut firsts, &mut lasts, &mut news) {
-        ControlAnswer::Read {
-            commands,
-            stages: _,
-        } => draw_from(
-            out, area, text, mode, height, font, second, origin, codes, starts, widths, places,
-            commands, &stages, &firsts, &lasts, &news,
+        Ok(read) => draw_from(
+            out,
+            area,
+            text,
+            mode,
+            height,
+            font,
+            second,
+            origin,
+            codes,
+            starts,
+            widths,
+            places,
+            read.commands,
+            &stages,
+            &firsts,
+            &lasts,
+            &news,
         ),
-        ControlAnswer::Refused(r) => refuse(r, out),
+        Err(r) => refuse(r, out),
     }
 }

@@ -10,7 +10,8 @@ use lib.Dec.{ltb}
 use lib.ListN.{length, get_or, take}
 use borrow.Author.Tests.{ltb-true, ltb-false}
 use Rattle.ground.specs.Limits.{max_text, max_line_width, min_scratch}
-use Rattle.ground.specs.Refusals.{refusal, too_many_characters, area_too_small, control_file_too_long, too_many_commands, text_too_long, line_too_wide, wrong_length}
+use Rattle.ground.specs.Refusals.{refusal, number_of, too_many_characters, area_too_small, control_file_too_long, too_many_commands, text_too_long, line_too_wide, wrong_length}
+use Rattle.ground.specs.declared.refusals.Reason.{Reason}
 use Rattle.ground.specs.declared.refusals.Refusal.{Refusal}
 use Rattle.ground.proofs.Tests.{clash}
 use Rattle.blocks.specs.Block.{Block}
@@ -28,8 +29,9 @@ use Rattle.source.specs.Source.{font_source}
 use Rattle.drawing.specs.declared.DrawAnswer.TheVariants.{Drawn}
 use Rattle.drawing.specs.Drawing.{text_codes, characters_of, line_of, trace_of, mode_of, draw_lined, lined_answer, bytes_of}
 use Rattle.drawing.proofs.Answers as drawn
-use Rattle.checking.specs.declared.CheckAnswer.{CheckAnswer}
-use Rattle.checking.specs.declared.CheckAnswer.TheVariants.{Accepted, WrongOverlap, WrongByte, Refused}
+use Rattle.checking.specs.declared.Verdict.{Verdict}
+use Rattle.std.specs.Prelude.{Result, Ok, Err}
+use Rattle.checking.specs.declared.Verdict.TheVariants.{Accepted, WrongOverlap, WrongByte}
 use Rattle.checking.proofs.DifferenceLaws.{PartsFirst}
 use Rattle.checking.specs.Verdict.{after_first, verdict, line_checked}
 use Rattle.checking.proofs.TraceLaws.{one_less, each-overlap}
@@ -74,15 +76,15 @@ module _ (size : ℕ) (s control text : List ℕ) where
 
   module _ (overlaps figure : List ℕ) where
     -- "9 (scratch under 32,000), font, control, 15, .. 16"; then the verdict: 25, the first wrong overlap, the first wrong byte, or accepted.
-    pub data ChecksTo : CheckAnswer → Type 0 where
-      scratch_small : size < min_scratch → ChecksTo (Refused (refusal area_too_small 0))
-      font_refused : min_scratch ≤ size → (r : Refusal) → font.reading s ≡ font.refuses r → ChecksTo (Refused r)
-      control-refused : min_scratch ≤ size → (h : Header) (es : List Entry) → font.reading s ≡ font.says h es → (r : Refusal) → flc.control control ≡ flc.refuses r → ChecksTo (Refused r)
-      text_too_long_lem : min_scratch ≤ size → (h : Header) (es : List Entry) → font.reading s ≡ font.says h es → (cs : List Command) (k : ℕ) → flc.control control ≡ flc.reads cs k → max_text < length text → ChecksTo (Refused (refusal text_too_long 0))
-      line_too_wide_lem : (x : CheckRead) → max_line_width < (line_by x).width → ChecksTo (Refused (refusal line_too_wide 0))
+    pub data ChecksTo : Result Verdict Refusal → Type 0 where
+      scratch_small : size < min_scratch → ChecksTo (Err (refusal area_too_small 0))
+      font_refused : min_scratch ≤ size → (r : Refusal) → font.reading s ≡ font.refuses r → ChecksTo (Err r)
+      control-refused : min_scratch ≤ size → (h : Header) (es : List Entry) → font.reading s ≡ font.says h es → (r : Refusal) → flc.control control ≡ flc.refuses r → ChecksTo (Err r)
+      text_too_long_lem : min_scratch ≤ size → (h : Header) (es : List Entry) → font.reading s ≡ font.says h es → (cs : List Command) (k : ℕ) → flc.control control ≡ flc.reads cs k → max_text < length text → ChecksTo (Err (refusal text_too_long 0))
+      line_too_wide_lem : (x : CheckRead) → max_line_width < (line_by x).width → ChecksTo (Err (refusal line_too_wide 0))
       judged : (x : CheckRead) → (line_by x).width ≤ max_line_width → ChecksTo (verdict (right_by x) (drawing_by x) overlaps figure)
 
-    abbrev pub answer : CheckAnswer
+    abbrev pub answer : Result Verdict Refusal
     answer = drawing_checked size s control text overlaps figure
 
     by_files : min_scratch ≤ size → checked_by s (font.reading s) (flc.control control) text overlaps figure ≡ answer
@@ -97,7 +99,7 @@ module _ (size : ℕ) (s control text : List ℕ) where
     line-by x = cases.check_short (mode_of x.header) x.header.height (font_source s x.characters) control text overlaps figure x.commands x.stages x.control-read x.short ∙ by-source x.enough x.header x.characters x.font_read
 
     -- Each of these gives its answer,
-    pub gives : (a : CheckAnswer) → ChecksTo a → answer ≡ a
+    pub gives : (a : Result Verdict Refusal) → ChecksTo a → answer ≡ a
     gives _ (scratch_small u) = sym (cases.scratch_small s control text overlaps figure size u)
     gives _ (font_refused u r p) = sym (by_files u) ∙ ap (λ (m : font.FontReading). checked_by s m (flc.control control) text overlaps figure) p
     gives _ (control-refused u h es p r c) = sym (by-source u h es p) ∙ ap (λ (x : flc.ControlReading). checked_from (mode_of h) h.height (font_source s es) x text overlaps figure) c
@@ -109,7 +111,7 @@ module _ (size : ℕ) (s control text : List ℕ) where
     pub one_of : ChecksTo answer
     one_of = by_size (ltb size min_scratch) refl
       where
-        as_told : (a : CheckAnswer) → ChecksTo a → ChecksTo answer
+        as_told : (a : Result Verdict Refusal) → ChecksTo a → ChecksTo answer
         as_told a d = subst ChecksTo (sym (gives a d)) d
 
         by_width : (x : CheckRead) (b : Bool) → ltb max_line_width (line_by x).width ≡ b → ChecksTo answer
@@ -135,15 +137,15 @@ module _ (size : ℕ) (s control text : List ℕ) where
         by_size false e = by_font (ltb-false size min_scratch e) (font.reading s) refl
 
     -- Each verdict by itself.
-    pub record Judged (a : CheckAnswer) : Type 0 where
+    pub record Judged (a : Result Verdict Refusal) : Type 0 where
       pub files : CheckRead
       pub narrow : (line_by files).width ≤ max_line_width
       pub is : verdict (right_by files) (drawing_by files) overlaps figure ≡ a
 
-    judged_as : (a : CheckAnswer) → ((r : Refusal) → a ≡ Refused r → ⊥) → answer ≡ a → Judged a
+    judged_as : (a : Result Verdict Refusal) → ((r : Refusal) → a ≡ Err r → ⊥) → answer ≡ a → Judged a
     judged_as a n e = go answer e one_of
       where
-        go : (b : CheckAnswer) → b ≡ a → ChecksTo b → Judged a
+        go : (b : Result Verdict Refusal) → b ≡ a → ChecksTo b → Judged a
         go _ p (scratch_small u) = absurd (n _ (sym p))
         go _ p (font_refused u r q) = absurd (n _ (sym p))
         go _ p (control-refused u h es q r c) = absurd (n _ (sym p))
@@ -151,28 +153,28 @@ module _ (size : ℕ) (s control text : List ℕ) where
         go _ p (line_too_wide_lem x l) = absurd (n _ (sym p))
         go _ p (judged x l) = record { files = x; narrow = l; is = p }
 
-    judged_gives : (a : CheckAnswer) → Judged a → answer ≡ a
+    judged_gives : (a : Result Verdict Refusal) → Judged a → answer ≡ a
     judged_gives a j = gives _ (judged j.files j.narrow) ∙ j.is
 
     -- "Accept exactly if each overlap is the one of demand 3 and the bytes are the drawing."
-    pub accepted : answer ≡ Accepted ↔ ((x : CheckRead) × ((line_by x).width ≤ max_line_width) × (overlaps ≡ right_by x) × (figure ≡ drawing_by x))
+    pub accepted : answer ≡ Ok Accepted ↔ ((x : CheckRead) × ((line_by x).width ≤ max_line_width) × (overlaps ≡ right_by x) × (figure ≡ drawing_by x))
     accepted = (
-      λ e. let j = judged_as Accepted (λ r p. clash (cc)) e in let w = (accepted_exactly (right_by j.files) (drawing_by j.files) overlaps figure).0 j.is in (j.files, j.narrow, w.0, w.1),
-      λ w. judged_gives Accepted (record { files = w.0; narrow = w.1; is = (accepted_exactly (right_by w.0) (drawing_by w.0) overlaps figure).1 (w.2, w.3) }),
+      λ e. let j = judged_as (Ok Accepted) (λ r p. clash (cc)) e in let w = (accepted_exactly (right_by j.files) (drawing_by j.files) overlaps figure).0 j.is in (j.files, j.narrow, w.0, w.1),
+      λ w. judged_gives (Ok Accepted) (record { files = w.0; narrow = w.1; is = (accepted_exactly (right_by w.0) (drawing_by w.0) overlaps figure).1 (w.2, w.3) }),
     )
 
     -- "The check names the first wrong overlap,
-    pub wrong_overlap : (k : ℕ) → answer ≡ WrongOverlap k ↔ ((x : CheckRead) × ((line_by x).width ≤ max_line_width) × FirstWrong k (right_by x) overlaps)
+    pub wrong_overlap : (k : ℕ) → answer ≡ Ok (WrongOverlap k) ↔ ((x : CheckRead) × ((line_by x).width ≤ max_line_width) × FirstWrong k (right_by x) overlaps)
     wrong_overlap k = (
-      λ e. let j = judged_as (WrongOverlap k) (λ r p. clash (cc)) e in (j.files, j.narrow, (overlap_exactly (right_by j.files) (drawing_by j.files) overlaps figure k).0 j.is),
-      λ w. judged_gives (WrongOverlap k) (record { files = w.0; narrow = w.1; is = (overlap_exactly (right_by w.0) (drawing_by w.0) overlaps figure k).1 w.2 }),
+      λ e. let j = judged_as (Ok (WrongOverlap k)) (λ r p. clash (cc)) e in (j.files, j.narrow, (overlap_exactly (right_by j.files) (drawing_by j.files) overlaps figure k).0 j.is),
+      λ w. judged_gives (Ok (WrongOverlap k)) (record { files = w.0; narrow = w.1; is = (overlap_exactly (right_by w.0) (drawing_by w.0) overlaps figure k).1 w.2 }),
     )
 
     -- else the first wrong byte."
-    pub wrong_byte : (p : ℕ) → answer ≡ WrongByte p ↔ ((x : CheckRead) × ((line_by x).width ≤ max_line_width) × (overlaps ≡ right_by x) × PartsFirst p (drawing_by x) figure)
+    pub wrong_byte : (p : ℕ) → answer ≡ Ok (WrongByte p) ↔ ((x : CheckRead) × ((line_by x).width ≤ max_line_width) × (overlaps ≡ right_by x) × PartsFirst p (drawing_by x) figure)
     wrong_byte p = (
-      λ e. let j = judged_as (WrongByte p) (λ r q. clash (cc)) e in let w = (byte_exactly (right_by j.files) (drawing_by j.files) overlaps figure p).0 j.is in (j.files, j.narrow, w.0, w.1),
-      λ w. judged_gives (WrongByte p) (record { files = w.0; narrow = w.1; is = (byte_exactly (right_by w.0) (drawing_by w.0) overlaps figure p).1 (w.2, w.3) }),
+      λ e. let j = judged_as (Ok (WrongByte p)) (λ r q. clash (cc)) e in let w = (byte_exactly (right_by j.files) (drawing_by j.files) overlaps figure p).0 j.is in (j.files, j.narrow, w.0, w.1),
+      λ w. judged_gives (Ok (WrongByte p)) (record { files = w.0; narrow = w.1; is = (byte_exactly (right_by w.0) (drawing_by w.0) overlaps figure p).1 (w.2, w.3) }),
     )
 
     -- Each refusal by itself: what it is given for.
@@ -193,72 +195,78 @@ module _ (size : ℕ) (s control text : List ℕ) where
 
     abbrev Told : Refusal → Type 0
     Told r =
-        (r.number ≤ too_many_characters → FontFor r) ×
-        (r.number ≡ area_too_small → (r.place ≡ 0) × (size < min_scratch)) ×
-        (control_file_too_long ≤ r.number → r.number ≤ too_many_commands → ControlFor r) ×
-        (r.number ≡ text_too_long → TooLong r.place) ×
-        (r.number ≡ line_too_wide → TooWide r.place) ×
-        (r.number ≡ wrong_length → WrongList r.place)
+        (number_of r.reason ≤ number_of too_many_characters → FontFor r) ×
+        (number_of r.reason ≡ number_of area_too_small → (r.place ≡ 0) × (size < min_scratch)) ×
+        (number_of control_file_too_long ≤ number_of r.reason → number_of r.reason ≤ number_of too_many_commands → ControlFor r) ×
+        (number_of r.reason ≡ number_of text_too_long → TooLong r.place) ×
+        (number_of r.reason ≡ number_of line_too_wide → TooWide r.place) ×
+        (number_of r.reason ≡ number_of wrong_length → WrongList r.place)
 
-    told_judged : (r : Refusal) (x : CheckRead) → (line_by x).width ≤ max_line_width → verdict (right_by x) (drawing_by x) overlaps figure ≡ Refused r → Told r
+    same_number : {q r : Refusal} → q ≡ r → number_of q.reason ≡ number_of r.reason
+    same_number e = ap (λ (x : Refusal). number_of x.reason) e
+
+    told_judged : (r : Refusal) (x : CheckRead) → (line_by x).width ≤ max_line_width → verdict (right_by x) (drawing_by x) overlaps figure ≡ Err r → Told r
     told_judged r x l e =
         let w = (refused_exactly (right_by x) (drawing_by x) overlaps figure r).0 e in
-        let n : r.number ≡ wrong_length = ap (λ (q : Refusal). q.number) w.0 in
+        let n = same_number w.0 in
         let p : r.place ≡ 0 = ap (λ (q : Refusal). q.place) w.0 in
         (λ e. absurd (omega arith), λ e. absurd (omega arith), λ e f. absurd (omega arith), λ e. absurd (omega arith), λ e. absurd (omega arith), λ e. (p, x, l, w.1))
 
-    told : (a : CheckAnswer) → ChecksTo a → (r : Refusal) → a ≡ Refused r → Told r
+    told : (a : Result Verdict Refusal) → ChecksTo a → (r : Refusal) → a ≡ Err r → Told r
     told _ (scratch_small u) r e =
-        let n : area_too_small ≡ r.number = cc in
-        let p : 0 ≡ r.place = cc in
+        let q : refusal area_too_small 0 ≡ r = cc in
+        let n = same_number q in
+        let p : 0 ≡ r.place = ap (λ (x : Refusal). x.place) q in
         (λ e. absurd (omega arith), λ e. (sym p, u), λ e f. absurd (omega arith), λ e. absurd (omega arith), λ e. absurd (omega arith), λ e. absurd (omega arith))
     told _ (font_refused u q m) r e =
         let p : q ≡ r = cc in
         let b = font_refusal s q m in
-        let n : q.number ≡ r.number = cc in
+        let n = same_number p in
         (λ e. (u, m ∙ ap font.refuses p), λ e. absurd (omega (arith, b.1)), λ e f. absurd (omega (arith, b.1)), λ e. absurd (omega (arith, b.1)), λ e. absurd (omega (arith, b.1)), λ e. absurd (omega (arith, b.1)))
     told _ (control-refused u h es m q c) r e =
         let p : q ≡ r = cc in
         let b = control-refusal control q c in
-        let n : q.number ≡ r.number = cc in
+        let n = same_number p in
         (λ e. absurd (omega (arith, b.0)), λ e. absurd (omega (arith, b.0)), λ e f. (u, h, es, m, c ∙ ap flc.refuses p), λ e. absurd (omega (arith, b.1)), λ e. absurd (omega (arith, b.1)), λ e. absurd (omega (arith, b.1)))
     told _ (text_too_long_lem u h es m cs k c l) r e =
-        let n : text_too_long ≡ r.number = cc in
-        let p : 0 ≡ r.place = cc in
+        let q : refusal text_too_long 0 ≡ r = cc in
+        let n = same_number q in
+        let p : 0 ≡ r.place = ap (λ (x : Refusal). x.place) q in
         (λ e. absurd (omega arith), λ e. absurd (omega arith), λ e f. absurd (omega arith), λ e. (sym p, u, h, es, m, cs, k, c, l), λ e. absurd (omega arith), λ e. absurd (omega arith))
     told _ (line_too_wide_lem x l) r e =
-        let n : line_too_wide ≡ r.number = cc in
-        let p : 0 ≡ r.place = cc in
+        let q : refusal line_too_wide 0 ≡ r = cc in
+        let n = same_number q in
+        let p : 0 ≡ r.place = ap (λ (x : Refusal). x.place) q in
         (λ e. absurd (omega arith), λ e. absurd (omega arith), λ e f. absurd (omega arith), λ e. absurd (omega arith), λ e. (sym p, x, l), λ e. absurd (omega arith))
     told _ (judged x l) r e = told_judged r x l e
 
-    tells : (r : Refusal) → answer ≡ Refused r → Told r
+    tells : (r : Refusal) → answer ≡ Err r → Told r
     tells r e = told answer one_of r e
 
-    refused-at : (number p : ℕ) → p ≡ 0 → answer ≡ Refused (refusal number 0) → answer ≡ Refused (refusal number p)
-    refused-at number p e a = subst (λ (q : ℕ). answer ≡ Refused (refusal number q)) (sym e) a
+    refused-at : (reason : Reason) (p : ℕ) → p ≡ 0 → answer ≡ Err (refusal reason 0) → answer ≡ Err (refusal reason p)
+    refused-at reason p e a = subst (λ (q : ℕ). answer ≡ Err (refusal reason q)) (sym e) a
 
-    pub row_font : (r : Refusal) → r.number ≤ too_many_characters → answer ≡ Refused r ↔ FontFor r
+    pub row_font : (r : Refusal) → number_of r.reason ≤ number_of too_many_characters → answer ≡ Err r ↔ FontFor r
     row_font r l = (λ e. (tells r e).0 l, λ w. gives _ (font_refused w.0 r w.1))
 
-    pub row_9 : (p : ℕ) → answer ≡ Refused (refusal area_too_small p) ↔ ((p ≡ 0) × (size < min_scratch))
+    pub row_9 : (p : ℕ) → answer ≡ Err (refusal area_too_small p) ↔ ((p ≡ 0) × (size < min_scratch))
     row_9 p = (λ e. (tells _ e).1 refl, λ w. refused-at area_too_small p w.0 (gives _ (scratch_small w.1)))
 
-    pub row-control : (r : Refusal) → control_file_too_long ≤ r.number → r.number ≤ too_many_commands → answer ≡ Refused r ↔ ControlFor r
+    pub row-control : (r : Refusal) → number_of control_file_too_long ≤ number_of r.reason → number_of r.reason ≤ number_of too_many_commands → answer ≡ Err r ↔ ControlFor r
     row-control r u v = (λ e. (tells r e).2 u v, λ w. gives _ (control-refused w.0 w.1 w.2 w.3 r w.4))
 
-    pub row_15 : (p : ℕ) → answer ≡ Refused (refusal text_too_long p) ↔ TooLong p
+    pub row_15 : (p : ℕ) → answer ≡ Err (refusal text_too_long p) ↔ TooLong p
     row_15 p = (λ e. (tells _ e).3 refl, λ w. refused-at text_too_long p w.0 (gives _ (text_too_long_lem w.1 w.2 w.3 w.4 w.5 w.6 w.7 w.8)))
 
-    pub row_16 : (p : ℕ) → answer ≡ Refused (refusal line_too_wide p) ↔ TooWide p
+    pub row_16 : (p : ℕ) → answer ≡ Err (refusal line_too_wide p) ↔ TooWide p
     row_16 p = (λ e. (tells _ e).4 refl, λ w. refused-at line_too_wide p w.0 (gives _ (line_too_wide_lem w.1 w.2)))
 
-    pub row_25 : (p : ℕ) → answer ≡ Refused (refusal wrong_length p) ↔ WrongList p
+    pub row_25 : (p : ℕ) → answer ≡ Err (refusal wrong_length p) ↔ WrongList p
     row_25 p = (λ e. (tells _ e).5 refl, λ w. refused-at wrong_length p w.0 (gives _ (judged w.1 w.2) ∙ (refused_exactly (right_by w.1) (drawing_by w.1) overlaps figure (refusal wrong_length 0)).1 (refl, w.3)))
 
   -- What `draw` puts out, with the overlaps of its trace, is accepted.
   pub own_drawing : (room w : ℕ) (n : Counts) → lined_answer (draw_lined size s control text) room ≡ Drawn w n →
-      (x : CheckRead) × (drawing_checked size s control text (right_by x) (bytes_of (draw_lined size s control text) room) ≡ Accepted)
+      (x : CheckRead) × (drawing_checked size s control text (right_by x) (bytes_of (draw_lined size s control text) room) ≡ Ok Accepted)
   own_drawing room w n e =
       let v = (drawn.row_drawn size s control text room w n).0 e in
       let x : CheckRead = record { enough = v.4.0; header = v.0; characters = v.1; font_read = v.4.1; commands = v.2; stages = v.3; control-read = v.4.2; short = v.5 } in

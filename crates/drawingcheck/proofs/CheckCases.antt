@@ -23,21 +23,21 @@ use Rattle.flc.specs.Control as flc
 use Rattle.source.specs.Source.{Source, font_source}
 use Rattle.drawing.specs.Drawing.{text_codes, line_of, trace_of, mode_of, unlined, lined_by, lined_of, draws, refuses}
 use Rattle.drawing.specs.Steps.{Reached}
-use Rattle.checking.specs.declared.CheckAnswer.{CheckAnswer}
-use Rattle.checking.specs.declared.CheckAnswer.TheVariants.{Refused}
+use Rattle.checking.specs.declared.Verdict.{Verdict}
+use Rattle.std.specs.Prelude.{Result, Err}
 use Rattle.checking.specs.Verdict.{line_checked}
 use Rattle.checking.proofs.VerdictLaws.{checked_like, line_16}
 use Rattle.drawingcheck.specs.CheckDrawing.{codes_checked, checked_read, checked_from, checked_by, checked_of, drawing_checked}
 
 -- From a source on.
 module _ (y : Mode) (h : ℕ) (source : Source) (control text overlaps figure : List ℕ) (cs : List Command) (k : ℕ) (c : flc.control control ≡ flc.reads cs k) where
-  abbrev said : CheckAnswer
+  abbrev said : Result Verdict Refusal
   said = checked_from y h source (flc.reads cs k) text overlaps figure
 
   is_said : checked_from y h source (flc.control control) text overlaps figure ≡ said
   is_said = ap (λ (x : flc.ControlReading). checked_from y h source x text overlaps figure) c
 
-  pub check_long : max_text < length text → Refused (refusal text_too_long 0) ≡ checked_from y h source (flc.control control) text overlaps figure
+  pub check_long : max_text < length text → Err (refusal text_too_long 0) ≡ checked_from y h source (flc.control control) text overlaps figure
   check_long l = sym (is_said ∙ ap (λ (b : Bool). checked_read y h source (cond b (refuses (refusal text_too_long 0)) (draws (text_codes cs k text))) overlaps figure) (lt-ltb max_text (length text) l))
 
   pub check_short : length text ≤ max_text → codes_checked y h source (text_codes cs k text) overlaps figure ≡ checked_from y h source (flc.control control) text overlaps figure
@@ -61,18 +61,18 @@ unfolding checked_of
 files_said s control text overlaps figure h es e = sym (ap (λ (m : font.FontReading). checked_by s m (flc.control control) text overlaps figure) e)
 
 -- Files that refuse every text refuse every check.
-pub files_refused : (s control text overlaps figure : List ℕ) (r : Refusal) → ((t : List ℕ) → lined_of s control t ≡ unlined r) → Refused r ≡ checked_of s control text overlaps figure
+pub files_refused : (s control text overlaps figure : List ℕ) (r : Refusal) → ((t : List ℕ) → lined_of s control t ≡ unlined r) → Err r ≡ checked_of s control text overlaps figure
 unfolding checked_of lined_of
 files_refused s control text overlaps figure r all = go (font.reading s) (flc.control control) (all [])
   where
-    go : (m : font.FontReading) (x : flc.ControlReading) → lined_by s m x [] ≡ unlined r → Refused r ≡ checked_by s m x text overlaps figure
-    go (font.refuses q) x e = let p : q ≡ r = cc in sym (ap Refused p)
-    go (font.says h es) (flc.refuses q) e = let p : q ≡ r = cc in sym (ap Refused p)
+    go : (m : font.FontReading) (x : flc.ControlReading) → lined_by s m x [] ≡ unlined r → Err r ≡ checked_by s m x text overlaps figure
+    go (font.refuses q) x e = let p : q ≡ r = cc in sym (ap Err p)
+    go (font.says h es) (flc.refuses q) e = let p : q ≡ r = cc in sym (ap Err p)
     go (font.says h es) (flc.reads cs k) e = clash (cc)
 
 -- The scratch is tested first.
 module _ (s control text overlaps figure : List ℕ) (scratch : ℕ) where
-  pub scratch_small : scratch < min_scratch → Refused (refusal area_too_small 0) ≡ drawing_checked scratch s control text overlaps figure
+  pub scratch_small : scratch < min_scratch → Err (refusal area_too_small 0) ≡ drawing_checked scratch s control text overlaps figure
   unfolding drawing_checked
   scratch_small l = sym (rw (lt-ltb scratch min_scratch l))
 

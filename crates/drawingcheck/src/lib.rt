@@ -15,9 +15,9 @@ ghost use Rattle.drawingcheck.specs.CheckDrawing.{checked_from, checked_of, draw
 ghost use Rattle.drawingcheck.specs.Steps.{GrowsBy, with_chosen, CodesDrawn};
 
 use bothfiles::Files;
-use checking::{CheckAnswer, Tally};
-use ground::refusals::Refusal;
-use ground::{limits, refusals};
+use checking::{Tally, Verdict};
+use ground::limits;
+use ground::refusals::{Reason, Refusal};
 use index::latest;
 use source::{Chosen, Origin};
 use subchars::Mode;
@@ -108,15 +108,14 @@ fn check_from(
     firsts: &[i32],
     lasts: &[i32],
     news: &[i32],
-) -> CheckAnswer
+) -> Result<Verdict, Refusal>
     requires gives { (source : Source) × Gives source font.now font.now height origin codes.now starts.now widths.now places.now }
     requires by_index { (control : List ℕ) × ControlHeld control commands stages.now firsts.now lasts.now news.now }
     requires min_scratch_in_bounds { min_scratch ≤ length area.old }
     ensures { (source : Source) → Gives source font.now font.now height origin codes.now starts.now widths.now places.now → (control : List ℕ) → ControlHeld control commands stages.now firsts.now lasts.now news.now → result ≡ checked_from mode height source (flc.control control) text.now overlaps.now figure.now }
 {
     if limits::MAX_TEXT < text.len() {
-        let number = refusals::TEXT_TOO_LONG;
-        return CheckAnswer::Refused(Refusal { number, place: 0 });
+        return Err(Refusal::of(Reason::TextTooLong));
     }
     let drawn = check_text(
         area, text, overlaps, mode, height, font, origin, codes, starts, widths, places, commands,
@@ -142,7 +141,7 @@ fn check_files(
     firsts: &[i32],
     lasts: &[i32],
     news: &[i32],
-) -> CheckAnswer
+) -> Result<Verdict, Refusal>
     requires by_index { (control : List ℕ) × FilesHeld font.now control files codes.now starts.now widths.now places.now stages.now firsts.now lasts.now news.now }
     requires min_scratch_in_bounds { min_scratch ≤ length area.old }
     ensures { (control : List ℕ) → FilesHeld font.now control files codes.now starts.now widths.now places.now stages.now firsts.now lasts.now news.now → result ≡ checked_of font.now control text.now overlaps.now figure.now }
@@ -171,7 +170,7 @@ fn check_files(
             lasts,
             news,
         ),
-        Files::Refused(r) => CheckAnswer::Refused(r),
+        Files::Refused(r) => Err(r),
     }
 }
 
@@ -183,7 +182,7 @@ fn check_once(
     overlaps: &[usize],
     font: &[u8],
     control: &[u8],
-) -> CheckAnswer
+) -> Result<Verdict, Refusal>
     requires { min_scratch ≤ length area.old }
     ensures { result ≡ checked_of font.now control.now text.now overlaps.now figure.now }
 {
@@ -221,12 +220,11 @@ fn check_tested(
     overlaps: &[usize],
     font: &[u8],
     control: &[u8],
-) -> CheckAnswer
+) -> Result<Verdict, Refusal>
     ensures { result ≡ drawing_checked (length scratch.old) font.now control.now text.now overlaps.now figure.now }
 {
     if scratch.len() < limits::MIN_SCRATCH {
-        let number = refusals::AREA_TOO_SMALL;
-        return CheckAnswer::Refused(Refusal { number, place: 0 });
+        return Err(Refusal::of(Reason::AreaTooSmall));
     }
     check_once(scratch, text, figure, overlaps, font, control)
 }
@@ -240,7 +238,7 @@ pub fn check_drawing(
     figure: &[u8],
     overlaps: &[usize],
     scratch: &mut [u8],
-) -> CheckAnswer
+) -> Result<Verdict, Refusal>
     ensures value { result ≡ drawing_checked (length scratch.old) font.now control.now text.now overlaps.now figure.now }
     ensures scratch_after { scratch.new ≡ zeros (length scratch.old) }
 {

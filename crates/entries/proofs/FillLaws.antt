@@ -3,6 +3,7 @@
 use mathlib.Core.Path.{◌≡◌, refl, sym, ap, ◌∙◌}
 use mathlib.Core.Bool.{Bool, true, false}
 use mathlib.Core.List.{List, ◌++◌, map}
+use Rattle.std.specs.Prelude.{Result, Ok, Err}
 use Prim.Native.Nat.{ℕ, ◌+◌, ◌-◌, ◌≤◌, ◌<◌, min}
 use native.Mathlib.Omega.{arith}
 use native.Mathlib.Numerals.{add-one}
@@ -14,15 +15,14 @@ use borrow.Author.Tests.{ltb-true, ltb-false}
 use Rattle.ground.specs.Refusals.{refusal, area_too_small}
 use Rattle.ground.specs.Limits.{max_characters}
 use Rattle.ground.proofs.Lent as lent
-use Rattle.header.specs.declared.Header.{Header}
 use Rattle.chars.specs.declared.Entry.{Entry}
 use Rattle.chars.specs.Codes.{code}
 use Rattle.chars.specs.Chars.{entry}
 use Rattle.font.specs.Font.{FontReading, says, refuses, reading}
 use Rattle.font.proofs.ReadingLaws.{font_read}
 use Rattle.index.specs.Index.{code_of, start_of, width_of, Lists}
-use Rattle.reader.specs.declared.FontAnswer.{FontAnswer}
-use Rattle.reader.specs.declared.FontAnswer.TheVariants.{Read}
+use Rattle.ground.specs.declared.refusals.Refusal.{Refusal}
+use Rattle.reader.specs.declared.FontRead.{FontRead}
 use Rattle.reader.specs.Reader.{ReadInto, font_answer, entries_of}
 use Rattle.reader.proofs.ReadLaws.{read-says}
 use Rattle.entries.specs.declared.listing.Listed.{Listed}
@@ -52,18 +52,17 @@ module _ (es : List Entry) (codes : List ℤ) (starts widths : List ℕ) (l : Li
   listed-all a n h q = q ∙ (λ j. take-length es j ++ zeros_left zero_entry n (length es) h j)
 
 -- What an answer and the entries say together.
-module _ (m : FontReading) (codes : List ℤ) (starts widths : List ℕ) (r : FontAnswer) (i : ReadInto m r codes starts widths) where
-  pub read-few : (h : Header) (n : ℕ) → r ≡ Read h n → n ≤ max_characters
-  read-few h n p = omega (arith, (read-says m h n (sym p ∙ i.answer)).count, i.lists.few)
+module _ (m : FontReading) (codes : List ℤ) (starts widths : List ℕ) (r : Result FontRead Refusal) (i : ReadInto m r codes starts widths) where
+  pub read-few : (a : FontRead) → r ≡ Ok a → a.count ≤ max_characters
+  read-few a p = omega (arith, (read-says m a (sym p ∙ i.answer)).count, i.lists.few)
 
-  pub read-listed : (h : Header) (n : ℕ) (es : List Entry) → r ≡ Read h n →
-      ((l : List Entry) → n ≡ length l → Lists l codes starts widths → es ≡ with_zeros l array_length) →
-      ◌≡◌ {A = Listed} (record { answer = Read h n; entries = es }) (listed_of m)
+  pub read-listed : (a : FontRead) (es : List Entry) → r ≡ Ok a →
+      ((l : List Entry) → a.count ≡ length l → Lists l codes starts widths → es ≡ with_zeros l array_length) →
+      ◌≡◌ {A = Listed} (record { answer = Ok a; entries = es }) (listed_of m)
   unfolding index_of
-  read-listed h n es p f =
-      let s = read-says m h n (sym p ∙ i.answer) in
-      (λ j. record { answer = Read h (s.count j); entries = f (entries_of m) s.count i.lists j }) ∙
-      sym (ap (λ (x : FontReading). record { answer = font_answer x; entries = index_of m array_length }) s.is)
+  read-listed a es p f =
+      let s = read-says m a (sym p ∙ i.answer) in
+      (λ j. record { answer = (sym p ∙ i.answer) j; entries = f (entries_of m) s.count i.lists j })
 
 -- Whether an index has room, and what it holds.
 module _ (s : List ℕ) (room : ℕ) where

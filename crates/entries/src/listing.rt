@@ -8,9 +8,9 @@ ghost use Rattle.entries.specs.Filling.{font_reading, with_zeros};
 ghost use Rattle.entries.specs.Steps.{array_length, listed_of};
 
 use chars::Entry;
-use ground::refusals::Refusal;
-use ground::{limits, refusals};
-use reader::FontAnswer;
+use ground::limits;
+use ground::refusals::{Reason, Refusal};
+use reader::FontRead;
 use subchars::Code;
 
 // The last place of the array, and its length. No font has a character at the last place: the zeros there stand for all that lie behind.
@@ -27,7 +27,7 @@ const ZEROS: [Entry; LENGTH] = [Entry {
 // What reading a font answers, and its characters.
 #[derive(Clone, Copy)]
 pub struct Listed {
-    pub answer: FontAnswer,
+    pub answer: Result<FontRead, Refusal>,
     pub entries: [Entry; LENGTH],
 }
 
@@ -37,14 +37,12 @@ fn list_entries(codes: &[i32], starts: &[usize], widths: &[usize], count: usize)
     ensures { (es : List Entry) → count ≡ length es → Lists es codes.now starts.now widths.now → result ≡ with_zeros es array_length }
 {
     let mut entries = ZEROS;
-    let mut i: usize = 0;
-    while i < count {
+    for i in 0..count {
         entries[i] = Entry {
             code: Code(codes[i]),
             start: starts[i],
             width: widths[i],
         };
-        i += 1;
     }
     entries
 }
@@ -53,7 +51,7 @@ fn refuse(r: Refusal) -> Listed
     ensures { result ≡ listed_of (refuses r) }
 {
     Listed {
-        answer: FontAnswer::Refused(r),
+        answer: Err(r),
         entries: ZEROS,
     }
 }
@@ -63,19 +61,16 @@ pub fn list_font(font: &[u8], room: usize) -> Listed
     ensures { result ≡ listed_of (font_reading room font.now) }
 {
     if room < limits::MAX_CHARACTERS {
-        return refuse(Refusal {
-            number: refusals::AREA_TOO_SMALL,
-            place: 0,
-        });
+        return refuse(Refusal::of(Reason::AreaTooSmall));
     }
     let mut codes = [0i32; limits::MAX_CHARACTERS];
     let mut starts = [0usize; limits::MAX_CHARACTERS];
     let mut widths = [0usize; limits::MAX_CHARACTERS];
     match reader::read_lists(font, &mut codes, &mut starts, &mut widths) {
-        FontAnswer::Read { header, count } => Listed {
-            answer: FontAnswer::Read { header, count },
-            entries: list_entries(&codes, &starts, &widths, count),
+        Ok(read) => Listed {
+            answer: Ok(read),
+            entries: list_entries(&codes, &starts, &widths, read.count),
         },
-        FontAnswer::Refused(r) => refuse(r),
+        Err(r) => refuse(r),
     }
 }

@@ -1,14 +1,14 @@
 // What is printed about a control file: its counts and first commands, and what a code maps to.
 use asking::code_of;
 use asking::printing::{named, refused, signed, signed_named};
-use flc::ControlAnswer;
+use flc::ControlRead;
+use ground::refusals::Refusal;
 use std::io;
-use wattleslate::MapAnswer;
 
 // A code of a list, as far as the list has it.
 fn code_at(rt: &impl Print, list: &[i32], i: usize) -> io::Result<()> {
-    if i < list.len() {
-        signed_named(rt, b" ", list[i])?;
+    if let Some(z) = list.get(i) {
+        signed_named(rt, b" ", *z)?;
     }
     Ok(())
 }
@@ -22,8 +22,8 @@ fn entry(
     news: &[i32],
     i: usize,
 ) -> io::Result<()> {
-    if i < stages.len() {
-        named(rt, b"; ", stages[i])?;
+    if let Some(stage) = stages.get(i) {
+        named(rt, b"; ", *stage)?;
     }
     code_at(rt, firsts, i)?;
     code_at(rt, lasts, i)?;
@@ -38,33 +38,28 @@ fn entries(
     news: &[i32],
     n: usize,
 ) -> io::Result<()> {
-    let mut i: usize = 0;
-    while i < n {
+    for i in 0..n {
         entry(rt, stages, firsts, lasts, news, i)?;
-        i += 1;
     }
     Ok(())
 }
 
 // The counts of a control file, or its refusal.
-fn show_answer(rt: &impl Print, answer: ControlAnswer) -> io::Result<()> {
+fn show_answer(rt: &impl Print, answer: Result<ControlRead, Refusal>) -> io::Result<()> {
     match answer {
-        ControlAnswer::Read { commands, stages } => {
-            named(rt, b"commands ", commands)?;
-            named(rt, b", stages ", stages)
+        Ok(read) => {
+            named(rt, b"commands ", read.commands)?;
+            named(rt, b", stages ", read.stages)
         }
-        ControlAnswer::Refused(r) => refused(rt, r.number, r.place),
+        Err(r) => refused(rt, r),
     }
 }
 
 // How many of its entries are shown: the first eight.
-fn shown(answer: ControlAnswer) -> usize {
+fn shown(answer: Result<ControlRead, Refusal>) -> usize {
     match answer {
-        ControlAnswer::Read {
-            commands,
-            stages: _,
-        } => ground::smaller(commands, 8),
-        ControlAnswer::Refused(_) => 0,
+        Ok(read) => read.commands.min(8),
+        Err(_) => 0,
     }
 }
 
@@ -100,7 +95,7 @@ pub(crate) fn show_short(rt: &impl Print, control: &[u8]) -> io::Result<()> {
 // What a code maps to.
 pub(crate) fn show_map(rt: &impl Print, control: &[u8], word: &[u8]) -> io::Result<()> {
     match wattleslate::map_code(control, code_of(word)) {
-        MapAnswer::Mapped(z) => signed(rt, z.0),
-        MapAnswer::Refused(r) => refused(rt, r.number, r.place),
+        Ok(z) => signed(rt, z.0),
+        Err(r) => refused(rt, r),
     }
 }

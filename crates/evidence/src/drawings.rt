@@ -41,7 +41,7 @@ pub(crate) fn show_drawing(rt: &(impl Files + Print), font: &[u8], words: &[u8])
     let n = load(rt, word_of(words), &mut buffer);
     let second = behind(words);
     let third = behind(second);
-    let size = ground::smaller(row_of(word_of(second)), MOST_SCRATCH);
-    let room = ground::smaller(row_of(word_of(third)), MOST_ROOM);
+    let size = row_of(word_of(second)).min(MOST_SCRATCH);
+    let room = row_of(word_of(third)).min(MOST_ROOM);
     draw(rt, font, &buffer[..n], past_byte(behind(third)), size, room)
 }

@@ -3,16 +3,15 @@ use crate::indexes::{ask, show_looked};
 use asking::printing::{heading, named, number, quoted, refused, signed_named, text};
 use asking::{behind, code_of, row_of, word_of};
 use ground::limits;
-use header::{Given, Header};
+use header::Header;
 use std::io;
 use subchars::{Code, Layout, Smushing};
-use wattleslate::{FontAnswer, LookUpAnswer, RowRefusal};
 
-fn given(rt: &impl Print, name: &[u8], g: Given) -> io::Result<()> {
+fn given(rt: &impl Print, name: &[u8], g: Option<usize>) -> io::Result<()> {
     text(rt, name)?;
     match g {
-        Given::Absent => text(rt, b"absent"),
-        Given::Of(n) => number(rt, n),
+        None => text(rt, b"absent"),
+        Some(n) => number(rt, n),
     }
 }
 
@@ -68,8 +67,8 @@ pub(crate) fn show_font(rt: &impl Print, font: &[u8]) -> io::Result<()> {
     let a = ask(font, limits::MAX_CHARACTERS, 0, Code(0), 0);
     let answer = a.answer;
     match answer {
-        FontAnswer::Read { header, count } => says(rt, count, header),
-        FontAnswer::Refused(r) => refused(rt, r.number, r.place),
+        Ok(read) => says(rt, read.count, read.header),
+        Err(r) => refused(rt, r),
     }
 }
 
@@ -80,20 +79,20 @@ pub(crate) fn show_entry(rt: &impl Print, font: &[u8], words: &[u8]) -> io::Resu
     text(rt, b" ")?;
     heading(rt, word)?;
     match wattleslate::look_up(font, code_of(word)) {
-        LookUpAnswer::Looked(looked) => show_looked(rt, looked),
-        LookUpAnswer::Refused(r) => refused(rt, r.number, r.place),
+        Ok(looked) => show_looked(rt, looked),
+        Err(r) => refused(rt, r),
     }
 }
 
 // Where a row is and its bytes, or its refusal.
 fn show_part(rt: &impl Print, font: &[u8], code: Code, row: usize) -> io::Result<()> {
     match wattleslate::row_refusal(font, code, row) {
-        RowRefusal::NotRefused { place, width } => {
-            named(rt, b"at ", place)?;
-            named(rt, b", width ", width)?;
+        Ok(at) => {
+            named(rt, b"at ", at.place)?;
+            named(rt, b", width ", at.width)?;
             quoted(rt, wattleslate::row(font, code, row))
         }
-        RowRefusal::Refused(r) => refused(rt, r.number, r.place),
+        Err(r) => refused(rt, r),
     }
 }
 

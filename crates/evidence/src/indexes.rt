@@ -4,9 +4,10 @@ ghost use Rattle.std.specs.Prelude.{◌<◌, ◌≤◌};
 use asking::printing::{named, number, refused, signed_named, text};
 use asking::{behind, code_of, row_of, word_of};
 use chars::Entry;
+use ground::refusals::Refusal;
 use std::io;
 use subchars::Code;
-use wattleslate::{FontAnswer, LookedUp};
+use wattleslate::{FontRead, LookedUp};
 
 // How many entries the array has that is lent, whole or a part of it.
 const MOST: usize = 600;
@@ -14,7 +15,7 @@ const MOST: usize = 600;
 // What the two calls answer, and the entry that was asked for.
 #[derive(Clone, Copy)]
 pub(crate) struct Asked {
-    pub(crate) answer: FontAnswer,
+    pub(crate) answer: Result<FontRead, Refusal>,
     pub(crate) looked: LookedUp,
     pub(crate) entry: Entry,
 }
@@ -66,13 +67,13 @@ pub(crate) fn show_looked(rt: &impl Print, looked: LookedUp) -> io::Result<()> {
     }
 }
 
-fn show_answer(rt: &impl Print, answer: FontAnswer) -> io::Result<()> {
+fn show_answer(rt: &impl Print, answer: Result<FontRead, Refusal>) -> io::Result<()> {
     match answer {
-        FontAnswer::Read { header: _, count } => {
-            number(rt, count)?;
+        Ok(read) => {
+            number(rt, read.count)?;
             text(rt, b" characters")
         }
-        FontAnswer::Refused(r) => refused(rt, r.number, r.place),
+        Err(r) => refused(rt, r),
     }
 }
 
@@ -91,10 +92,10 @@ fn show_asked(rt: &impl Print, a: Asked, place: usize) -> io::Result<()> {
 
 // The words are a size, a count, a code and a place: the answer of reading the font, what looking the code up came to, and the entry at the place.
 pub(crate) fn show_index(rt: &impl Print, font: &[u8], words: &[u8]) -> io::Result<()> {
-    let size = ground::smaller(row_of(word_of(words)), MOST);
+    let size = row_of(word_of(words)).min(MOST);
     let second = behind(words);
     let third = behind(second);
-    let place = ground::smaller(row_of(word_of(behind(third))), MOST - 1);
+    let place = row_of(word_of(behind(third))).min(MOST - 1);
     let a = ask(
         font,
         size,

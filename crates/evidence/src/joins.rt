@@ -5,9 +5,10 @@ use asking::lent::{MOST_ROOM, show_output, used_output};
 use asking::printing::{named, refused};
 use asking::{behind, first_block, hardblank_of, past_byte, row_of, second_block, word_of};
 use ground::limits;
+use ground::refusals::Refusal;
 use std::io;
 use subchars::{Direction, Layout, Smushing, SubCharacter};
-use wattleslate::JoinAnswer;
+use wattleslate::Joined;
 
 // How two blocks are joined.
 #[derive(Clone, Copy)]
@@ -35,13 +36,13 @@ fn layout_of(word: &[u8]) -> Layout {
     Layout::from_full(n)
 }
 
-fn show_answer(rt: &impl Print, answer: JoinAnswer) -> io::Result<()> {
+fn show_answer(rt: &impl Print, answer: Result<Joined, Refusal>) -> io::Result<()> {
     match answer {
-        JoinAnswer::Joined { overlap, width } => {
-            named(rt, b"overlap ", overlap)?;
-            named(rt, b", width ", width)
+        Ok(joined) => {
+            named(rt, b"overlap ", joined.overlap)?;
+            named(rt, b", width ", joined.width)
         }
-        JoinAnswer::Refused(r) => refused(rt, r.number, r.place),
+        Err(r) => refused(rt, r),
     }
 }
 
@@ -118,7 +119,7 @@ pub(crate) fn show_join(rt: &impl Print, words: &[u8]) -> io::Result<()> {
     let shape = behind_three(words);
     let area = behind_three(shape);
     let length = behind(area);
-    let room = ground::smaller(row_of(word_of(area)), MOST_ROOM);
+    let room = row_of(word_of(area)).min(MOST_ROOM);
     let n = row_of(word_of(length));
     let t = past_byte(behind(length));
     join(

@@ -9,24 +9,24 @@ mod joins;
 
 use asking::printing::{heading, text};
 use asking::{behind, load, read_full, shortened, word_of};
-use lines::{Cursor, LineStep, words};
+use lines::Cursor;
 use std::io;
 use std::rt::Files;
 
 // Requests about a font; the answer begins with the font's name, or with the request.
 fn about_font(rt: &impl Print, line: &[u8], font: &[u8]) -> io::Result<()> {
     let arguments = behind(line);
-    if words::starts_with(line, b"read ") {
+    if line.starts_with(b"read ") {
         heading(rt, word_of(arguments))?;
         fonts::show_font(rt, font)?;
     }
-    if words::starts_with(line, b"look ") {
+    if line.starts_with(b"look ") {
         fonts::show_entry(rt, font, arguments)?;
     }
-    if words::starts_with(line, b"row ") {
+    if line.starts_with(b"row ") {
         fonts::show_row(rt, font, arguments)?;
     }
-    if words::starts_with(line, b"index ") {
+    if line.starts_with(b"index ") {
         heading(rt, line)?;
         indexes::show_index(rt, font, behind(arguments))?;
     }
@@ -35,15 +35,15 @@ fn about_font(rt: &impl Print, line: &[u8], font: &[u8]) -> io::Result<()> {
 
 // Requests about a control file; the answer begins with the request.
 fn about_control(rt: &impl Print, line: &[u8], control: &[u8]) -> io::Result<()> {
-    if words::starts_with(line, b"control ") {
+    if line.starts_with(b"control ") {
         heading(rt, line)?;
         controls::show_control(rt, control)?;
     }
-    if words::starts_with(line, b"short ") {
+    if line.starts_with(b"short ") {
         heading(rt, line)?;
         controls::show_short(rt, control)?;
     }
-    if words::starts_with(line, b"map ") {
+    if line.starts_with(b"map ") {
         heading(rt, line)?;
         controls::show_map(rt, control, word_of(behind(behind(line))))?;
     }
@@ -52,7 +52,7 @@ fn about_control(rt: &impl Print, line: &[u8], control: &[u8]) -> io::Result<()>
 
 // A request for a drawing; the answer begins with the request, of which 64 bytes are shown.
 fn about_drawing(rt: &(impl Files + Print), line: &[u8], font: &[u8]) -> io::Result<()> {
-    if words::starts_with(line, b"draw ") {
+    if line.starts_with(b"draw ") {
         heading(rt, shortened(line))?;
         drawings::show_drawing(rt, font, behind(behind(line)))?;
     }
@@ -61,7 +61,7 @@ fn about_drawing(rt: &(impl Files + Print), line: &[u8], font: &[u8]) -> io::Res
 
 // A request for a join; the answer begins with the request, of which 64 bytes are shown.
 fn about_join(rt: &impl Print, line: &[u8]) -> io::Result<()> {
-    if words::starts_with(line, b"join ") {
+    if line.starts_with(b"join ") {
         heading(rt, shortened(line))?;
         joins::show_join(rt, behind(line))?;
     }
@@ -83,17 +83,11 @@ fn request(rt: &(impl Files + Print), line: &[u8]) -> io::Result<()> {
 // The requests of a text, a line each.
 fn requests(rt: &(impl Files + Print), t: &[u8]) -> io::Result<()> {
     let mut cursor = Cursor::new();
-    loop {
-        match cursor.next(t) {
-            LineStep::Line { start, end, next } => {
-                request(rt, &t[start..end])?;
-                cursor = next;
-            }
-            LineStep::NoLine => {
-                return Ok(());
-            }
-        }
+    while let Some(line) = cursor.next(t) {
+        request(rt, &t[line.start..line.end])?;
+        cursor = line.next;
     }
+    Ok(())
 }
 
 fn main(rt: HostRuntime) -> io::Result<()> {

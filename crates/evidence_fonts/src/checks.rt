@@ -4,30 +4,25 @@ ghost use Rattle.std.specs.Prelude.{◌≤◌};
 use asking::lent::{MOST_SCRATCH, show_scratch, used_scratch};
 use asking::printing::{named, refused, text};
 use asking::{behind, load, past_byte, row_of, word_of};
-use lines::words::starts_with;
+use ground::refusals::Refusal;
 use std::io;
 use std::rt::Files;
-use wattleslate::CheckAnswer;
+use wattleslate::Verdict;
 
 // The array of which a list of overlaps is lent.
 const MOST_OVERLAPS: usize = 1100;
 
 // The overlap that a digit names.
 fn digit(x: u8) -> usize {
-    if x < b'0' {
-        return 0;
-    }
-    (x - b'0') as usize
+    x.saturating_sub(b'0') as usize
 }
 
 // The overlaps that a word names, a digit each.
 fn overlaps_of(word: &[u8]) -> [usize; MOST_OVERLAPS] {
     let mut list = [0usize; MOST_OVERLAPS];
-    let n = ground::smaller(word.len(), MOST_OVERLAPS);
-    let mut i: usize = 0;
-    while i < n {
+    let n = word.len().min(MOST_OVERLAPS);
+    for i in 0..n {
         list[i] = digit(word[i]);
-        i += 1;
     }
     list
 }
@@ -36,18 +31,18 @@ fn overlaps_of(word: &[u8]) -> [usize; MOST_OVERLAPS] {
 fn count_of(word: &[u8]) -> usize
     ensures { result ≤ 1100 }
 {
-    if starts_with(word, b"-") {
+    if word.starts_with(b"-") {
         return 0;
     }
-    ground::smaller(word.len(), MOST_OVERLAPS)
+    word.len().min(MOST_OVERLAPS)
 }
 
-fn show_answer(rt: &impl Print, answer: CheckAnswer) -> io::Result<()> {
+fn show_answer(rt: &impl Print, answer: Result<Verdict, Refusal>) -> io::Result<()> {
     match answer {
-        CheckAnswer::Accepted => text(rt, b"accepted"),
-        CheckAnswer::WrongOverlap(k) => named(rt, b"wrong overlap ", k),
-        CheckAnswer::WrongByte(place) => named(rt, b"wrong byte ", place),
-        CheckAnswer::Refused(r) => refused(rt, r.number, r.place),
+        Ok(Verdict::Accepted) => text(rt, b"accepted"),
+        Ok(Verdict::WrongOverlap(k)) => named(rt, b"wrong overlap ", k),
+        Ok(Verdict::WrongByte(place)) => named(rt, b"wrong byte ", place),
+        Err(r) => refused(rt, r),
     }
 }
 
@@ -104,7 +99,7 @@ pub(crate) fn show_check(
     let n = load(rt, word_of(words), &mut buffer);
     let second = behind(words);
     let third = behind(second);
-    let size = ground::smaller(row_of(word_of(second)), MOST_SCRATCH);
+    let size = row_of(word_of(second)).min(MOST_SCRATCH);
     check(
         rt,
         font,

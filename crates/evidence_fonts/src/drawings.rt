@@ -56,8 +56,8 @@ pub(crate) fn show_drawing<'a>(
     let n = load(rt, word_of(words), &mut buffer);
     let sizes = behind(words);
     let third = behind(sizes);
-    let size = ground::smaller(row_of(word_of(sizes)), MOST_SCRATCH);
-    let room = ground::smaller(row_of(word_of(third)), MOST_ROOM);
+    let size = row_of(word_of(sizes)).min(MOST_SCRATCH);
+    let room = row_of(word_of(third)).min(MOST_ROOM);
     draw(
         rt,
         first,

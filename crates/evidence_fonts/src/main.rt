@@ -8,8 +8,7 @@ mod parts;
 
 use asking::printing::{heading, text};
 use asking::{behind, load, read_full, shortened, word_of};
-use lines::words::starts_with;
-use lines::{Cursor, LineStep};
+use lines::Cursor;
 use std::io;
 use std::rt::Files;
 
@@ -21,13 +20,13 @@ fn about_files<'a>(
     second: &'a [u8],
     words: &[u8],
 ) -> io::Result<()> {
-    if starts_with(line, b"check ") {
+    if line.starts_with(b"check ") {
         checks::show_check(rt, first, second, words)?;
     }
-    if starts_with(line, b"draw ") {
+    if line.starts_with(b"draw ") {
         drawings::show_drawing(rt, first, second, words)?;
     }
-    if starts_with(line, b"row ") {
+    if line.starts_with(b"row ") {
         parts::show_row(rt, first, second, words)?;
     }
     Ok(())
@@ -49,17 +48,11 @@ fn request(rt: &(impl Files + Print), line: &[u8]) -> io::Result<()> {
 // The requests of a text, a line each.
 fn requests(rt: &(impl Files + Print), t: &[u8]) -> io::Result<()> {
     let mut cursor = Cursor::new();
-    loop {
-        match cursor.next(t) {
-            LineStep::Line { start, end, next } => {
-                request(rt, &t[start..end])?;
-                cursor = next;
-            }
-            LineStep::NoLine => {
-                return Ok(());
-            }
-        }
+    while let Some(line) = cursor.next(t) {
+        request(rt, &t[line.start..line.end])?;
+        cursor = line.next;
     }
+    Ok(())
 }
 
 fn main(rt: HostRuntime) -> io::Result<()> {

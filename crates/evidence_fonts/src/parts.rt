@@ -19,7 +19,7 @@ fn show_answer(rt: &impl Print, answer: RequestedOfTwo) -> io::Result<()> {
             named(rt, b" at ", place)?;
             named(rt, b", width ", width)
         }
-        RequestedOfTwo::Refused(r) => refused(rt, r.number, r.place),
+        RequestedOfTwo::Refused(r) => refused(rt, r),
     }
 }
 

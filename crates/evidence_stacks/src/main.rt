@@ -9,8 +9,7 @@ mod wraps;
 use asking::printing::{heading, text};
 use asking::{behind, load, read_full, row_of, shortened, word_of};
 use asking_packs::{drawings, packs};
-use lines::words::starts_with;
-use lines::{Cursor, LineStep};
+use lines::Cursor;
 use std::io;
 use std::rt::Files;
 
@@ -37,22 +36,22 @@ fn about_font(rt: &(impl Files + Print), words: &[u8]) -> io::Result<()> {
 
 // A request about a pack: the first word says how many bytes of it are lent.
 fn about_pack(rt: &(impl Files + Print), words: &[u8], pack: &mut [u8]) -> io::Result<()> {
-    let size = ground::smaller(row_of(word_of(words)), pack.len());
+    let size = row_of(word_of(words)).min(pack.len());
     packs::show_step(rt, behind(words), &mut pack[..size])
 }
 
 // A request for a stack of two blocks or of two texts, or for a text in lines or in one line.
 fn about_blocks_and_texts(rt: &(impl Files + Print), line: &[u8]) -> io::Result<()> {
-    if starts_with(line, b"stack ") {
+    if line.starts_with(b"stack ") {
         stacks::show_stack(rt, behind(line))?;
     }
-    if starts_with(line, b"texts ") {
+    if line.starts_with(b"texts ") {
         about_texts(rt, behind(line))?;
     }
-    if starts_with(line, b"lines ") {
+    if line.starts_with(b"lines ") {
         about_lines(rt, behind(line))?;
     }
-    if starts_with(line, b"font ") {
+    if line.starts_with(b"font ") {
         about_font(rt, behind(line))?;
     }
     Ok(())
@@ -61,7 +60,7 @@ fn about_blocks_and_texts(rt: &(impl Files + Print), line: &[u8]) -> io::Result<
 // A request of those kinds, or about the pack that is kept from request to request; the answer begins with the request, of which 64 bytes are shown.
 fn request(rt: &(impl Files + Print), line: &[u8], pack: &mut [u8]) -> io::Result<()> {
     heading(rt, shortened(line))?;
-    if starts_with(line, b"pack ") {
+    if line.starts_with(b"pack ") {
         about_pack(rt, behind(line), pack)?;
         return text(rt, b"\n");
     }
@@ -72,17 +71,11 @@ fn request(rt: &(impl Files + Print), line: &[u8], pack: &mut [u8]) -> io::Resul
 // The requests of a text, a line each.
 fn requests(rt: &(impl Files + Print), t: &[u8], pack: &mut [u8]) -> io::Result<()> {
     let mut cursor = Cursor::new();
-    loop {
-        match cursor.next(t) {
-            LineStep::Line { start, end, next } => {
-                request(rt, &t[start..end], pack)?;
-                cursor = next;
-            }
-            LineStep::NoLine => {
-                return Ok(());
-            }
-        }
+    while let Some(line) = cursor.next(t) {
+        request(rt, &t[line.start..line.end], pack)?;
+        cursor = line.next;
     }
+    Ok(())
 }
 
 fn main(rt: HostRuntime) -> io::Result<()> {

@@ -5,9 +5,10 @@ use asking::lent::{MOST_ROOM, show_output, used_output};
 use asking::printing::{named, refused};
 use asking::{behind, first_block, hardblank_of, past_byte, row_of, second_block, word_of};
 use ground::limits;
+use ground::refusals::Refusal;
 use std::io;
 use subchars::{SubCharacter, VerticalLayout, VerticalSmushing};
-use wattleslate::StackAnswer;
+use wattleslate::Stacked;
 
 // The heights and widths of the two blocks.
 #[derive(Clone, Copy)]
@@ -40,14 +41,10 @@ pub(crate) fn show_numbers(
     named(rt, b", width ", width)
 }
 
-fn show_answer(rt: &impl Print, answer: StackAnswer) -> io::Result<()> {
+fn show_answer(rt: &impl Print, answer: Result<Stacked, Refusal>) -> io::Result<()> {
     match answer {
-        StackAnswer::Stacked {
-            overlap,
-            height,
-            width,
-        } => show_numbers(rt, overlap, height, width),
-        StackAnswer::Refused(r) => refused(rt, r.number, r.place),
+        Ok(stacked) => show_numbers(rt, stacked.overlap, stacked.height, stacked.width),
+        Err(r) => refused(rt, r),
     }
 }
 
@@ -110,7 +107,7 @@ pub(crate) fn show_stack(rt: &impl Print, words: &[u8]) -> io::Result<()> {
         lower_height: row_of(word_of(fifth)),
         lower_width: row_of(word_of(sixth)),
     };
-    let room = ground::smaller(row_of(word_of(seventh)), MOST_ROOM);
+    let room = row_of(word_of(seventh)).min(MOST_ROOM);
     let length = row_of(word_of(eighth));
     let t = past_byte(behind(eighth));
     stack(

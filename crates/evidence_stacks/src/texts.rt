@@ -28,7 +28,7 @@ fn show_answer(rt: &impl Print, answer: LinesAnswer) -> io::Result<()> {
             show_numbers(rt, overlap, height, width)?;
             counted(rt, counts.stood_in, counts.nothing_drawn)
         }
-        LinesAnswer::Refused(r) => refused(rt, r.number, r.place),
+        LinesAnswer::Refused(r) => refused(rt, r),
     }
 }
 
@@ -82,8 +82,8 @@ pub(crate) fn show_texts(rt: &(impl Files + Print), font: &[u8], words: &[u8]) -
     let second = behind(words);
     let third = behind(second);
     let fourth = behind(third);
-    let size = ground::smaller(row_of(word_of(second)), MOST_SCRATCH);
-    let room = ground::smaller(row_of(word_of(third)), MOST_ROOM);
+    let size = row_of(word_of(second)).min(MOST_SCRATCH);
+    let room = row_of(word_of(third)).min(MOST_ROOM);
     let length = row_of(word_of(fourth));
     let t = past_byte(behind(fourth));
     draw(

@@ -26,7 +26,7 @@ fn show_answer(rt: &impl Print, answer: WrapAnswer) -> io::Result<usize> {
             Ok(lines)
         }
         WrapAnswer::Refused(r) => {
-            refused(rt, r.number, r.place)?;
+            refused(rt, r)?;
             Ok(0)
         }
     }
@@ -34,8 +34,8 @@ fn show_answer(rt: &impl Print, answer: WrapAnswer) -> io::Result<usize> {
 
 // A place of a list, as far as the list has it.
 fn place_at(rt: &impl Print, name: &[u8], list: &[usize], i: usize) -> io::Result<()> {
-    if i < list.len() {
-        named(rt, name, list[i])?;
+    if let Some(place) = list.get(i) {
+        named(rt, name, *place)?;
     }
     Ok(())
 }
@@ -47,32 +47,21 @@ fn line_at(rt: &impl Print, firsts: &[usize], ends: &[usize], i: usize) -> io::R
 }
 
 fn show_places(rt: &impl Print, firsts: &[usize], ends: &[usize], n: usize) -> io::Result<()> {
-    let mut i: usize = 0;
-    while i < n {
+    for i in 0..n {
         line_at(rt, firsts, ends, i)?;
-        i += 1;
     }
     Ok(())
 }
 
 // Whether a list is all zeros from place n on.
 fn zeros_from(list: &[usize], n: usize) -> bool {
-    let mut i = n;
-    while i < list.len() {
-        if list[i] != 0 {
-            return false;
-        }
-        i += 1;
-    }
-    true
+    list.iter().skip(n).all(|place| *place == 0)
 }
 
 // Tells whether the lists are all zeros behind the first n places.
 fn show_rest(rt: &impl Print, firsts: &[usize], ends: &[usize], n: usize) -> io::Result<()> {
-    if zeros_from(firsts, n) {
-        if zeros_from(ends, n) {
-            return text(rt, b", then zeros");
-        }
+    if zeros_from(firsts, n) && zeros_from(ends, n) {
+        return text(rt, b", then zeros");
     }
     text(rt, b", then NOT all zeros")
 }
@@ -140,10 +129,10 @@ fn show_text(rt: &impl Print, font: &[u8], control: &[u8], words: &[u8]) -> io::
         control,
         past_byte(behind(fifth)),
         row_of(word_of(words)),
-        ground::smaller(row_of(word_of(second)), MOST_LINES),
-        ground::smaller(row_of(word_of(third)), MOST_LINES),
-        ground::smaller(row_of(word_of(fourth)), MOST_SCRATCH),
-        ground::smaller(row_of(word_of(fifth)), MOST_ROOM),
+        row_of(word_of(second)).min(MOST_LINES),
+        row_of(word_of(third)).min(MOST_LINES),
+        row_of(word_of(fourth)).min(MOST_SCRATCH),
+        row_of(word_of(fifth)).min(MOST_ROOM),
     )
 }
 

@@ -3,25 +3,24 @@
 use mathlib.Core.Path.{◌≡◌, refl, sym, ap, ◌∙◌}
 use mathlib.Core.Bool.{Bool, true, false, cond}
 use mathlib.Core.List.{List, [], ◌∷◌, map}
+use Rattle.std.specs.Prelude.{Option, Some, None}
 use Prim.Native.Nat.{ℕ, zero, suc, ◌≤◌, ◌<◌, min}
 use native.Mathlib.Omega.{arith}
 use native.Mathlib.Numerals.{add-one}
 use lib.Dec.{ltb}
 use lib.IntN.{ℤ, pos}
 use lib.ListN.{length, take, get_or, length-map, get_or-map}
-use lib.Seq.{length-take-le, take_all}
+use lib.Seq.{length-take-le, take-length, take_all}
+use Rattle.std.specs.List.{fold}
+use Rattle.std.proofs.lemmas.List.Sums.{fold_more}
 use borrow.Author.Tests.{ltb-true, ltb-false}
 use Rattle.subchars.specs.declared.Code.{Code}
 use Rattle.chars.specs.declared.Entry.{Entry}
 use Rattle.chars.specs.Codes.{code, same_number, same_code}
 use Rattle.chars.specs.Chars.{entry}
-use Rattle.index.specs.declared.Found.TheVariants.{At, Nowhere}
-use Rattle.index.specs.declared.Found as place
 use Rattle.index.specs.Index.{code_of}
 use Rattle.index.specs.LookUp.{last_at}
 use Rattle.index.proofs.FindLaws.{last_next, at_last}
-use Rattle.reader.specs.declared.Use.{Use}
-use Rattle.reader.specs.declared.Use.TheVariants as use-is
 use Rattle.reader.specs.declared.LookedUp.{LookedUp}
 use Rattle.reader.specs.declared.LookedUp.TheVariants.{Found, StoodIn, Nothing}
 use Rattle.reader.specs.Reader.{entry_at, at_found, last_of, which_of, looked_up}
@@ -41,7 +40,7 @@ map-take zero es = refl
 map-take (suc n) [] = refl
 map-take (suc n) (e ∷ es) = ap (λ (l : List ℤ). code_of e ∷ l) (map-take n es)
 
-entry-at : (n : ℕ) (es : List Entry) (k : ℕ) → k < n → n ≤ length es → entry_at (take n es) k ≡ use-is.Used (get_or es k no_entry)
+entry-at : (n : ℕ) (es : List Entry) (k : ℕ) → k < n → n ≤ length es → entry_at (take n es) k ≡ Some (get_or es k no_entry)
 unfolding entry_at
 entry-at zero es k h m = absurd (omega arith)
 entry-at (suc n) [] k h m = absurd (omega arith)
@@ -55,26 +54,26 @@ module _ (es : List Entry) (i : ℕ) (small : i < length es) where
   abbrev e : Entry
   e = get_or es i no_entry
 
-  inside : (z : ℤ) (k : ℕ) → last_at z (take i codes) ≡ At k → k < i
+  inside : (z : ℤ) (k : ℕ) → last_at z (take i codes) ≡ Some k → k < i
   inside z k p = omega (arith, (at_last z (take i codes) k p).inside, length-take-le i codes (omega (arith, length-map es code_of)))
 
-  last_step : (z : ℤ) → last_at z (take (suc i) codes) ≡ cond (same_number e.code.0 z) (At i) (last_at z (take i codes))
+  last_step : (z : ℤ) → last_at z (take (suc i) codes) ≡ cond (same_number e.code.0 z) (Some i) (last_at z (take i codes))
   last_step z =
       ap (λ (n : ℕ). last_at z (take n codes)) (sym (add-one i)) ∙ last_next z codes i (omega (arith, length-map es code_of)) ∙
-      ap (λ (x : ℤ). cond (same_number x z) (At i) (last_at z (take i codes))) (get_or-map code_of es i no_entry)
+      ap (λ (x : ℤ). cond (same_number x z) (Some i) (last_at z (take i codes))) (get_or-map code_of es i no_entry)
 
   -- the last entry of a code among one entry more
-  last_of_next : (z : ℤ) → last_of z (take (suc i) es) ≡ cond (same_number e.code.0 z) (use-is.Used e) (last_of z (take i es))
+  last_of_next : (z : ℤ) → last_of z (take (suc i) es) ≡ cond (same_number e.code.0 z) (Some e) (last_of z (take i es))
   unfolding last_of
   last_of_next z =
-      ap (λ (l : List ℤ). at_found (last_at z l) (take (suc i) es)) (map-take (suc i) es) ∙ ap (λ (f : place.Found). at_found f (take (suc i) es)) (last_step z) ∙
+      ap (λ (l : List ℤ). at_found (last_at z l) (take (suc i) es)) (map-take (suc i) es) ∙ ap (λ (f : Option ℕ). at_found f (take (suc i) es)) (last_step z) ∙
       go (same_number e.code.0 z) (last_at z (take i codes)) refl ∙
-      ap (λ (l : List ℤ). cond (same_number e.code.0 z) (use-is.Used e) (at_found (last_at z l) (take i es))) (sym (map-take i es))
+      ap (λ (l : List ℤ). cond (same_number e.code.0 z) (Some e) (at_found (last_at z l) (take i es))) (sym (map-take i es))
     where
-      go : (b : Bool) (f : place.Found) → last_at z (take i codes) ≡ f → at_found (cond b (At i) f) (take (suc i) es) ≡ cond b (use-is.Used e) (at_found f (take i es))
+      go : (b : Bool) (f : Option ℕ) → last_at z (take i codes) ≡ f → at_found (cond b (Some i) f) (take (suc i) es) ≡ cond b (Some e) (at_found f (take i es))
       go true f p = entry-at (suc i) es i (omega arith) small
-      go false (At k) p = let h = inside z k p in entry-at (suc i) es k (omega arith) small ∙ sym (entry-at i es k h (omega arith))
-      go false Nowhere p = refl
+      go false (Some k) p = let h = inside z k p in entry-at (suc i) es k (omega arith) small ∙ sym (entry-at i es k h (omega arith))
+      go false None p = refl
 
   -- what the look-up comes to among one entry more
   pub looked_next : (c : Code) → better c (looked_up c (take i es)) e ≡ looked_up c (take (suc i) es)
@@ -83,13 +82,23 @@ module _ (es : List Entry) (i : ℕ) (small : i < length es) where
       (λ j. which_of (last_of_next c.0 j) (last_of_next (pos 0) j)) ∙
       go (same_number e.code.0 c.0) (same_number e.code.0 (pos 0)) (last_of c.0 (take i es)) (last_of (pos 0) (take i es)))
     where
-      go : (own zeroed : Bool) (u v : Use) → which_of (cond own (use-is.Used e) u) (cond zeroed (use-is.Used e) v) ≡ cond own (Found e) (cond (is_found (which_of u v)) (which_of u v) (cond zeroed (StoodIn e) (which_of u v)))
+      go : (own zeroed : Bool) (u v : Option Entry) → which_of (cond own (Some e) u) (cond zeroed (Some e) v) ≡ cond own (Found e) (cond (is_found (which_of u v)) (which_of u v) (cond zeroed (StoodIn e) (which_of u v)))
       go true zeroed u v = refl
-      go false zeroed (use-is.Used d) v = refl
-      go false true use-is.Nothing (use-is.Used d) = refl
-      go false true use-is.Nothing use-is.Nothing = refl
-      go false false use-is.Nothing (use-is.Used d) = refl
-      go false false use-is.Nothing use-is.Nothing = refl
+      go false zeroed (Some d) v = refl
+      go false true None (Some d) = refl
+      go false true None None = refl
+      go false false None (Some d) = refl
+      go false false None None = refl
+
+-- What is seen of all entries, one after another.
+pub seen_all : (c : Code) (es : List Entry) → fold (better c) Nothing es ≡ looked_up c es
+seen_all c es = sym (ap (fold (better c) Nothing) (take-length es)) ∙ go (length es) (omega arith) ∙ ap (looked_up c) (take-length es)
+  where
+    go : (i : ℕ) → i ≤ length es → fold (better c) Nothing (take i es) ≡ looked_up c (take i es)
+    go zero h = sym (looked_none c)
+    go (suc i) h =
+        ap (λ (n : ℕ). fold (better c) Nothing (take n es)) (sym (add-one i)) ∙ fold_more (better c) Nothing es i no_entry (omega arith) ∙
+        ap (λ (u : LookedUp). better c u (get_or es i no_entry)) (go i (omega arith)) ∙ looked_next es i (omega arith) c
 
 -- The same by the tests that decide on it.
 module _ (c : Code) (u : LookedUp) (e : Entry) where

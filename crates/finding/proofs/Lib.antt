@@ -3,4 +3,4 @@ pub mod FindLaws
 pub mod ToldApart
 pub mod Row
 pub mod Counted
-pub mod CallSmaller
+pub mod ReasonLaws

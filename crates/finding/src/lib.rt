@@ -15,12 +15,5 @@ use subchars::Code;
 pub fn find_in(index: &[Entry], count: usize, code: Code) -> LookedUp
     ensures answer { entry_tells result ≡ found_told index.now count code }
 {
-    let n = ground::smaller(count, index.len());
-    let mut seen = LookedUp::Nothing;
-    let mut i: usize = 0;
-    while i < n {
-        seen = seen::better(seen, index[i], code);
-        i += 1;
-    }
-    seen
+    seen::look_through(&index[..count.min(index.len())], code)
 }

@@ -7,7 +7,8 @@ use Prim.Native.Nat.{ℕ, ◌+◌, ◌-◌, ◌≤◌, ◌<◌}
 use lib.ListN.{length, get_or}
 use borrow.Author.Tests.{lt-ltb, le-ltb}
 use Rattle.ground.specs.Limits.{max_control_file, max_commands, max_stages}
-use Rattle.ground.specs.Refusals.{refusal, control_file_too_long, not_a_command, bad_ranges, extended_command, too_many_commands}
+use Rattle.ground.specs.Refusals.{refusal, number_of, control_file_too_long, not_a_command, bad_ranges, extended_command, too_many_commands}
+use Rattle.ground.specs.declared.refusals.Reason.{Reason}
 use Rattle.ground.specs.declared.refusals.Refusal.{Refusal}
 use Rattle.subchars.specs.declared.Code.{Code}
 use Rattle.lines.specs.Lines.{TextLine, lines_from}
@@ -71,7 +72,7 @@ module _ (s : List ℕ) where
   Nothing p = ⊥
 
   abbrev Row : Refusal → Type 0
-  Row r = get_or (TooLong ∷ NoCommandAt ∷ BadRangesAt ∷ ExtendedAt ∷ TooManyAt ∷ []) (r.number - control_file_too_long) Nothing r.place
+  Row r = get_or (TooLong ∷ NoCommandAt ∷ BadRangesAt ∷ ExtendedAt ∷ TooManyAt ∷ []) (number_of r.reason - number_of control_file_too_long) Nothing r.place
 
   -- ---------------------------------------------------------------- a refusal is of its row
 
@@ -96,8 +97,8 @@ module _ (s : List ℕ) where
 
   -- ---------------------------------------------------------------- the rows
 
-  at_place : (number p q : ℕ) → p ≡ q → control s ≡ refuses (refusal number q) → control s ≡ refuses (refusal number p)
-  at_place number p q e r = subst (λ (x : ℕ). control s ≡ refuses (refusal number x)) (sym e) r
+  at_place : (reason : Reason) (p q : ℕ) → p ≡ q → control s ≡ refuses (refusal reason q) → control s ≡ refuses (refusal reason p)
+  at_place reason p q e r = subst (λ (x : ℕ). control s ≡ refuses (refusal reason x)) (sym e) r
 
   -- 10: "control file too long"
   pub row_10 : (p : ℕ) → control s ≡ refuses (refusal control_file_too_long p) ↔ TooLong p

@@ -10,19 +10,16 @@ use lib.Dec.{leb, leb-zero, leb-suc-suc}
 use lib.IntN.{pos}
 use lib.ListN.{length, get_or, drop}
 use borrow.Author.Tests.{eq-eqb}
+use Rattle.std.specs.Prelude.{Option, Some, Ok}
 use Rattle.ground.specs.Refusals.{refusal, missing_line}
 use Rattle.ground.specs.declared.refusals.Refusal.{Refusal}
 use Rattle.ground.specs.Limits.{max_font_length, max_characters}
 use Rattle.subchars.specs.declared.Code.{Code}
 use Rattle.lines.specs.Lines.{TextLine, lines_from}
 use Rattle.header.specs.declared.Header.{Header}
-use Rattle.header.specs.declared.HeaderStep.TheVariants.{Good}
 use Rattle.header.specs.Header.{read_header}
 use Rattle.rows.specs.declared.Format.{Format}
-use Rattle.rows.specs.declared.RowStep.{RowStep}
-use Rattle.rows.specs.declared.RowStep.TheVariants.{Width}
 use Rattle.rows.specs.Rows.{row_of, has_width, rows_on, other_rows, character_rows, line_count}
-use Rattle.chars.specs.declared.TagStep.TheVariants.{Tag}
 use Rattle.chars.specs.Codes.{code, tag_of, required_codes, required_count}
 use Rattle.chars.specs.Chars.{Ending, stopped, Listing, blank_lines, tagged_from, listing}
 use Rattle.chars.proofs.CodeLaws.{still_required, none_required}
@@ -43,16 +40,16 @@ pub data Due : Type 0 where
 
 -- "Lines are taken one after another": of a font s whose header is h, what is due, and the lines that remain.
 pub data Comes (s : List ℕ) (h : Header) : Due → List TextLine → Type 0 where
-  behind-header : {l : TextLine} {ls : List TextLine} → length s ≤ max_font_length → lines_from s 0 ≡ l ∷ ls → read_header l.text ≡ Good h → Comes s h (comments h.comment_lines) ls
+  behind-header : {l : TextLine} {ls : List TextLine} → length s ≤ max_font_length → lines_from s 0 ≡ l ∷ ls → read_header l.text ≡ Ok h → Comes s h (comments h.comment_lines) ls
   past_comment : {k : ℕ} {l : TextLine} {ls : List TextLine} → Comes s h (comments (suc k)) (l ∷ ls) → Comes s h (comments k) ls
   past_comments_lem : {ls : List TextLine} → Comes s h (comments 0) ls → Comes s h (character 0) ls
   -- "after the comment lines come codes 32 to 126, then 196, 214, 220, 228, 246, 252, 223"
   required : {n : ℕ} {ls : List TextLine} → Comes s h (character n) ls → n < required_count → Comes s h (first-row n) ls
   -- "then tagged characters to the end"
   past_tag : {n : ℕ} {l : TextLine} {ls : List TextLine} → Comes s h (character n) (l ∷ ls) → required_count ≤ n → n < max_characters →
-      blank_lines (l ∷ ls) ≡ false → (c : Code) → tag_of l.text ≡ Tag c → Comes s h (first-row n) ls
-  past_first : {n : ℕ} {l : TextLine} {ls : List TextLine} → Comes s h (first-row n) (l ∷ ls) → (w : ℕ) → row_of (format h) l.text ≡ Width w → Comes s h (more_rows n (h.height - 1) w) ls
-  past_row : {n k w : ℕ} {l : TextLine} {ls : List TextLine} → Comes s h (more_rows n (suc k) w) (l ∷ ls) → row_of (format h) l.text ≡ Width w → Comes s h (more_rows n k w) ls
+      blank_lines (l ∷ ls) ≡ false → (c : Code) → tag_of l.text ≡ Some c → Comes s h (first-row n) ls
+  past_first : {n : ℕ} {l : TextLine} {ls : List TextLine} → Comes s h (first-row n) (l ∷ ls) → (w : ℕ) → row_of (format h) l.text ≡ Some w → Comes s h (more_rows n (h.height - 1) w) ls
+  past_row : {n k w : ℕ} {l : TextLine} {ls : List TextLine} → Comes s h (more_rows n (suc k) w) (l ∷ ls) → row_of (format h) l.text ≡ Some w → Comes s h (more_rows n k w) ls
   past_rows : {n w : ℕ} {ls : List TextLine} → Comes s h (more_rows n 0 w) ls → Comes s h (character (suc n)) ls
 
 module _ (s : List ℕ) (h : Header) where
@@ -88,20 +85,20 @@ module _ (s : List ℕ) (h : Header) where
   unfolding listing
   no_required n ls u = ap (λ (cs : List ℕ). (listing f size cs n ls).ending) (none_required n u)
 
-  tag_end : (n : ℕ) (l : TextLine) (ls : List TextLine) → required_count ≤ n → n < max_characters → blank_lines (l ∷ ls) ≡ false → (c : Code) → tag_of l.text ≡ Tag c →
+  tag_end : (n : ℕ) (l : TextLine) (ls : List TextLine) → required_count ≤ n → n < max_characters → blank_lines (l ∷ ls) ≡ false → (c : Code) → tag_of l.text ≡ Some c →
       end_from (character n) (l ∷ ls) ≡ end_from (first-row n) ls
   tag_end n l ls u v m c t =
       no_required n (l ∷ ls) u ∙ tag_room f size n l ls (record { more = m; code = c; names = t }) v ∙
       ap (ending_by (character_rows f size ls)) (sym (no_required (suc n) (drop (line_count f) ls) (omega arith)))
 
-  first-end : (n : ℕ) (l : TextLine) (ls : List TextLine) (w : ℕ) → row_of f l.text ≡ Width w → end_from (first-row n) (l ∷ ls) ≡ end_from (more_rows n (h.height - 1) w) ls
+  first-end : (n : ℕ) (l : TextLine) (ls : List TextLine) (w : ℕ) → row_of f l.text ≡ Some w → end_from (first-row n) (l ∷ ls) ≡ end_from (more_rows n (h.height - 1) w) ls
   unfolding character_rows
-  first-end n l ls w e = ap (λ (x : RowStep). ending_by (other_rows f size l.start x ls) (characters_end (suc n) (drop (h.height - 1) ls))) e
+  first-end n l ls w e = ap (λ (x : Option ℕ). ending_by (other_rows f size l.start x ls) (characters_end (suc n) (drop (h.height - 1) ls))) e
 
-  row-end : (n k w : ℕ) (l : TextLine) (ls : List TextLine) → row_of f l.text ≡ Width w → end_from (more_rows n (suc k) w) (l ∷ ls) ≡ end_from (more_rows n k w) ls
+  row-end : (n k w : ℕ) (l : TextLine) (ls : List TextLine) → row_of f l.text ≡ Some w → end_from (more_rows n (suc k) w) (l ∷ ls) ≡ end_from (more_rows n k w) ls
   unfolding rows_on
   row-end n k w l ls e =
-      let q : has_width (row_of f l.text) w ≡ true = ap (λ (x : RowStep). has_width x w) e ∙ eq-eqb w w refl in
+      let q : has_width (row_of f l.text) w ≡ true = ap (λ (x : Option ℕ). has_width x w) e ∙ eq-eqb w w refl in
       simp q
 
   rows_end : (n w : ℕ) (ls : List TextLine) → end_from (more_rows n 0 w) ls ≡ end_from (character (suc n)) ls
@@ -112,7 +109,7 @@ module _ (s : List ℕ) (h : Header) where
   abbrev Decides : Ending → Type 0
   Decides x = (r : Refusal) → reading s ≡ refuses r ↔ x ≡ stopped r
 
-  header_decides : (l : TextLine) (ls : List TextLine) → size ≤ max_font_length → lines_from s 0 ≡ l ∷ ls → read_header l.text ≡ Good h → Decides (end_from (comments h.comment_lines) ls)
+  header_decides : (l : TextLine) (ls : List TextLine) → size ≤ max_font_length → lines_from s 0 ≡ l ∷ ls → read_header l.text ≡ Ok h → Decides (end_from (comments h.comment_lines) ls)
   header_decides l ls u e g r = (λ q. to (leb h.comment_lines (length ls)) (sym is ∙ q), λ q. is ∙ from (leb h.comment_lines (length ls)) q)
     where
       characters : Listing
@@ -122,7 +119,7 @@ module _ (s : List ℕ) (h : Header) where
       read b = cond b (with_characters h characters) (refuses (refusal missing_line size))
 
       is : reading s ≡ read (leb h.comment_lines (length ls))
-      is = short_is s u ∙ ap (on_lines size) e ∙ header-by size l ls (Good h) g
+      is = short_is s u ∙ ap (on_lines size) e ∙ header-by size l ls (Ok h) g
 
       to : (b : Bool) → read b ≡ refuses r → cond b characters.ending (stopped (refusal missing_line size)) ≡ stopped r
       to true q = ended-stopped h characters.ending characters.entries r q

@@ -9,14 +9,13 @@ use native.Mathlib.Omega.{arith}
 use lib.Dec.{leb}
 use lib.IntN.{pos}
 use lib.ListN.{length, drop, take}
-use Rattle.ground.specs.Refusals.{refusal, font_too_long, missing_line, too_many_characters}
+use Rattle.std.specs.Prelude.{Result, Ok, Err}
+use Rattle.ground.specs.Refusals.{refusal, number_of, font_too_long, missing_line, too_many_characters}
 use Rattle.ground.specs.declared.refusals.Refusal.{Refusal}
 use Rattle.ground.proofs.Tests.{clash}
 use Rattle.ground.specs.Limits.{max_characters, max_font_length}
 use Rattle.lines.specs.Lines.{TextLine, lines_from}
 use Rattle.header.specs.declared.Header.{Header}
-use Rattle.header.specs.declared.HeaderStep.{HeaderStep}
-use Rattle.header.specs.declared.HeaderStep.TheVariants.{Good, Refused}
 use Rattle.header.specs.Header.{read_header}
 use Rattle.header.proofs.ParameterLaws.{High}
 use Rattle.header.proofs.RefusalLaws.{Numbered, header_numbered}
@@ -31,7 +30,7 @@ use Rattle.font.proofs.RefusalLaws.{short_is, long-is, deciding, only_font, font
 
 -- A font that is read has a first line with its header, and on the lines behind it the characters.
 data LinesRead (size : ℕ) (h : Header) : List TextLine → List Entry → Type 0 where
-  behind : (l : TextLine) (ls : List TextLine) → read_header l.text ≡ Good h → (listing (format h) size required_codes 0 (drop h.comment_lines ls)).ending ≡ finished →
+  behind : (l : TextLine) (ls : List TextLine) → read_header l.text ≡ Ok h → (listing (format h) size required_codes 0 (drop h.comment_lines ls)).ending ≡ finished →
       LinesRead size h (l ∷ ls) (listing (format h) size required_codes 0 (drop h.comment_lines ls)).entries
 
 ended-read : (g : Header) (en : Ending) (es : List Entry) (h : Header) (xs : List Entry) → reading_of g en es ≡ says h xs → (g ≡ h) × (es ≡ xs) × (en ≡ finished)
@@ -45,15 +44,15 @@ lines_read size (l ∷ ls) h es e = go (read_header l.text) refl e
     listed : Header → Listing
     listed g = listing (format g) size required_codes 0 (drop g.comment_lines ls)
 
-    said : (g : Header) → read_header l.text ≡ Good g → (b : Bool) → cond b (with_characters g (listed g)) (refuses (refusal missing_line size)) ≡ says h es → LinesRead size h (l ∷ ls) es
+    said : (g : Header) → read_header l.text ≡ Ok g → (b : Bool) → cond b (with_characters g (listed g)) (refuses (refusal missing_line size)) ≡ says h es → LinesRead size h (l ∷ ls) es
     said g p true q =
         let r = ended-read g (listed g).ending (listed g).entries h es q in
-        subst (LinesRead size h (l ∷ ls)) (ap (λ (y : Header). (listed y).entries) (sym r.0) ∙ r.1) (behind l ls (p ∙ ap Good r.0) (ap (λ (y : Header). (listed y).ending) (sym r.0) ∙ r.2))
+        subst (LinesRead size h (l ∷ ls)) (ap (λ (y : Header). (listed y).entries) (sym r.0) ∙ r.1) (behind l ls (p ∙ ap Ok r.0) (ap (λ (y : Header). (listed y).ending) (sym r.0) ∙ r.2))
     said g p false q = clash (cc)
 
-    go : (x : HeaderStep) → read_header l.text ≡ x → after_header x size ls ≡ says h es → LinesRead size h (l ∷ ls) es
-    go (Refused r) p q = clash (cc)
-    go (Good g) p q = said g p (leb g.comment_lines (length ls)) q
+    go : (x : Result Header Refusal) → read_header l.text ≡ x → after_header x size ls ≡ says h es → LinesRead size h (l ∷ ls) es
+    go (Err r) p q = clash (cc)
+    go (Ok g) p q = said g p (leb g.comment_lines (length ls)) q
 
 module _ (size : ℕ) (h : Header) where
   read_numbered : (ls : List TextLine) (es : List Entry) → LinesRead size h ls es → Numbered h
@@ -70,7 +69,7 @@ module _ (size : ℕ) (h : Header) where
 
 module _ (s : List ℕ) where
   -- a font is refused by 1 to 8, at a place within it or at its end
-  pub font_refusal : (r : Refusal) → reading s ≡ refuses r → (font_too_long ≤ r.number) × (r.number ≤ too_many_characters) × (r.place ≤ length s) × (r.place ≤ max_font_length)
+  pub font_refusal : (r : Refusal) → reading s ≡ refuses r → (number_of font_too_long ≤ number_of r.reason) × (number_of r.reason ≤ number_of too_many_characters) × (r.place ≤ length s) × (r.place ≤ max_font_length)
   font_refusal r e = font_inside s r (only_font s r e)
 
   -- A font that is read.

@@ -9,15 +9,14 @@ use native.Mathlib.Omega.{arith}
 use lib.Dec.{leb}
 use lib.ListN.{length, drop}
 use borrow.Author.Tests.{lt-ltb, le-ltb, leb-true, leb-false}
-use Rattle.ground.specs.Refusals.{refusal, font_too_long, no_signature, missing_line, too_many_characters}
+use Rattle.std.specs.Prelude.{Result, Ok, Err}
+use Rattle.ground.specs.Refusals.{refusal, number_of, font_too_long, no_signature, missing_line, too_many_characters}
 use Rattle.ground.specs.declared.refusals.Refusal.{Refusal}
 use Rattle.ground.proofs.Tests.{clash, below_or_not}
 use Rattle.ground.specs.Limits.{max_font_length}
 use Rattle.lines.specs.Lines.{TextLine, lines_from}
 use Rattle.lines.proofs.StartLaws.{Starting, start-rest, start_dropped, lines_start}
 use Rattle.header.specs.declared.Header.{Header}
-use Rattle.header.specs.declared.HeaderStep.{HeaderStep}
-use Rattle.header.specs.declared.HeaderStep.TheVariants.{Good, Refused}
 use Rattle.header.specs.Header.{read_header}
 use Rattle.header.proofs.RefusalLaws.{HeaderStops, header_exactly, header-refusal}
 use Rattle.chars.specs.declared.Entry.{Entry}
@@ -33,9 +32,9 @@ pub data LinesStop (size : ℕ) : List TextLine → Refusal → Type 0 where
   -- 2, 3 and 4
   in_header : {l : TextLine} {ls : List TextLine} {r : Refusal} → HeaderStops l.text r → LinesStop size (l ∷ ls) r
   -- 5: "font ends before a needed line", at the "font length": the comment lines run out
-  in_comments : {l : TextLine} {ls : List TextLine} (h : Header) → read_header l.text ≡ Good h → length ls < h.comment_lines → LinesStop size (l ∷ ls) (refusal missing_line size)
+  in_comments : {l : TextLine} {ls : List TextLine} (h : Header) → read_header l.text ≡ Ok h → length ls < h.comment_lines → LinesStop size (l ∷ ls) (refusal missing_line size)
   -- 5 to 8, "after the comment lines": the characters of the required codes, then the tagged ones
-  in_characters : {l : TextLine} {ls : List TextLine} {r : Refusal} (h : Header) → read_header l.text ≡ Good h → h.comment_lines ≤ length ls →
+  in_characters : {l : TextLine} {ls : List TextLine} {r : Refusal} (h : Header) → read_header l.text ≡ Ok h → h.comment_lines ≤ length ls →
       CharactersStop (format h) size required_codes 0 (drop h.comment_lines ls) r → LinesStop size (l ∷ ls) r
 
 -- "Order. Reading a font: .. 1, 2, 3, 4, then 5 to 8": every refusal of a font.
@@ -50,8 +49,8 @@ ended-stopped h finished es r e = clash (cc)
 ended-stopped h (stopped q) es r e = let d : q ≡ r = cc in ap stopped d
 
 module _ (size : ℕ) where
-  pub header-by : (l : TextLine) (ls : List TextLine) (x : HeaderStep) → read_header l.text ≡ x → on_lines size (l ∷ ls) ≡ after_header x size ls
-  header-by l ls x e = ap (λ (y : HeaderStep). after_header y size ls) e
+  pub header-by : (l : TextLine) (ls : List TextLine) (x : Result Header Refusal) → read_header l.text ≡ x → on_lines size (l ∷ ls) ≡ after_header x size ls
+  header-by l ls x e = ap (λ (y : Result Header Refusal). after_header y size ls) e
 
   -- the characters behind a header and its comment lines
   abbrev behind : Header → List TextLine → Listing
@@ -61,7 +60,7 @@ module _ (size : ℕ) where
   only_lines [] r e = let p : refusal no_signature 0 ≡ r = cc in subst (LinesStop size []) p no_line
   only_lines (l ∷ ls) r e = go (read_header l.text) refl e
     where
-      by : (h : Header) → read_header l.text ≡ Good h → (b : Bool) → leb h.comment_lines (length ls) ≡ b →
+      by : (h : Header) → read_header l.text ≡ Ok h → (b : Bool) → leb h.comment_lines (length ls) ≡ b →
           cond b (with_characters h (behind h ls)) (refuses (refusal missing_line size)) ≡ refuses r → LinesStop size (l ∷ ls) r
       by h p true b q =
           in_characters {l = l} h p (leb-true h.comment_lines (length ls) b)
@@ -70,11 +69,11 @@ module _ (size : ℕ) where
           let d : refusal missing_line size ≡ r = cc in
           subst (LinesStop size (l ∷ ls)) d (in_comments {l = l} h p (leb-false h.comment_lines (length ls) b))
 
-      go : (x : HeaderStep) → read_header l.text ≡ x → after_header x size ls ≡ refuses r → LinesStop size (l ∷ ls) r
-      go (Refused q) p y = let d : q ≡ r = cc in in_header {l = l} ((header_exactly l.text r).0 (p ∙ ap Refused d))
-      go (Good h) p y = by h p (leb h.comment_lines (length ls)) refl y
+      go : (x : Result Header Refusal) → read_header l.text ≡ x → after_header x size ls ≡ refuses r → LinesStop size (l ∷ ls) r
+      go (Err q) p y = let d : q ≡ r = cc in in_header {l = l} ((header_exactly l.text r).0 (p ∙ ap Err d))
+      go (Ok h) p y = by h p (leb h.comment_lines (length ls)) refl y
 
-  lines_inside : (ls : List TextLine) (r : Refusal) → Starting size ls → LinesStop size ls r → (no_signature ≤ r.number) × (r.number ≤ too_many_characters) × (r.place ≤ size)
+  lines_inside : (ls : List TextLine) (r : Refusal) → Starting size ls → LinesStop size ls r → (number_of no_signature ≤ number_of r.reason) × (number_of r.reason ≤ number_of too_many_characters) × (r.place ≤ size)
   lines_inside [] _ t no_line = (omega arith, omega arith, omega arith)
   lines_inside (l ∷ ls) r t (in_header b) = let k = header-refusal l.text r ((header_exactly l.text r).1 b) in (k.low, omega (arith, k.high), omega (arith, k.place))
   lines_inside (l ∷ ls) _ t (in_comments h e k) = (omega arith, omega arith, omega arith)
@@ -107,6 +106,6 @@ module _ (s : List ℕ) where
       go (inr h) = on_lines_lem h (only_lines (length s) (lines_from s 0) r (sym (short_is h) ∙ e))
 
   -- by 1 to 8, at a place within it or at its end
-  pub font_inside : (r : Refusal) → FontStops s r → (font_too_long ≤ r.number) × (r.number ≤ too_many_characters) × (r.place ≤ length s) × (r.place ≤ max_font_length)
+  pub font_inside : (r : Refusal) → FontStops s r → (number_of font_too_long ≤ number_of r.reason) × (number_of r.reason ≤ number_of too_many_characters) × (r.place ≤ length s) × (r.place ≤ max_font_length)
   font_inside _ (too_long h) = (omega arith, omega arith, omega arith, omega arith)
   font_inside r (on_lines_lem h b) = let n = lines_inside (length s) (lines_from s 0) r (lines_start s) b in (omega (arith, n.0), n.1, n.2, omega (arith, n.2, h))

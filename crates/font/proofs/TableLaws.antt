@@ -9,8 +9,10 @@ use native.Mathlib.Omega.{arith}
 use lib.Dec.{ltb, leb-suc-zero}
 use lib.ListN.{length, get_or, drop}
 use borrow.Author.Tests.{le-ltb, ltb-true, ltb-false}
+use Rattle.std.specs.Prelude.{Option, Some, None, Ok, Err}
 use Rattle.ground.specs.Runs.{run, all, begins}
-use Rattle.ground.specs.Refusals.{refusal, font_too_long, no_signature, bad_hardblank, bad_parameters, missing_line, bad_row, bad_code_tag, too_many_characters}
+use Rattle.ground.specs.Refusals.{refusal, number_of, font_too_long, no_signature, bad_hardblank, bad_parameters, missing_line, bad_row, bad_code_tag, too_many_characters}
+use Rattle.ground.specs.declared.refusals.Reason.{Reason}
 use Rattle.ground.specs.declared.refusals.Refusal.{Refusal}
 use Rattle.ground.specs.Limits.{max_font_length, max_characters}
 use Rattle.ground.proofs.Tests.{clash}
@@ -19,21 +21,14 @@ use Rattle.subchars.specs.Hardblank.{legal_hardblank}
 use Rattle.lines.specs.Lines.{TextLine, lines_from, text_at}
 use Rattle.lines.specs.Words.{is_blank, first_word}
 use Rattle.lines.specs.Numbers.{code_number}
-use Rattle.lines.specs.declared.numbers.CodeNumber.TheVariants.{Named, NotCode}
 use Rattle.lines.proofs.LineLaws.{lines_next, lines_none}
 use Rattle.header.specs.declared.Header.{Header}
-use Rattle.header.specs.declared.HeaderStep.TheVariants.{Refused}
 use Rattle.header.specs.declared.Parameters.{Parameters}
-use Rattle.header.specs.declared.ParameterStep.TheVariants.{All}
 use Rattle.header.specs.Header.{parameter_numbers, parameters, legal_parameters, font_signature, read_header}
 use Rattle.header.proofs.RefusalLaws.{hardblank_exactly, parameters_exactly, HeaderStops, signature, hardblank, numbers, header_exactly}
-use Rattle.rows.specs.declared.RowStep.{RowStep}
-use Rattle.rows.specs.declared.RowStep.TheVariants.{Width, BadRow}
-use Rattle.rows.specs.Rows.{trimmed, row, legal_byte, row_of, read, refused, has_width, rows_on, other_rows, character_rows, line_count}
+use Rattle.rows.specs.Rows.{trimmed, row, legal_byte, row_of, has_width, rows_on, other_rows, character_rows, line_count}
 use Rattle.rows.proofs.LineLaws.{bad_exactly, has_width_lem, width_exactly, line_exactly, row_exactly}
 use Rattle.rows.proofs.RefusalLaws.{RowsStop, other-missing, other_bad, past_other, CharacterStops, first-missing, first_bad, past_first}
-use Rattle.chars.specs.declared.TagStep.{TagStep}
-use Rattle.chars.specs.declared.TagStep.TheVariants.{Tag}
 use Rattle.chars.specs.Codes.{no_code, tag_of, required_codes, required_count}
 use Rattle.chars.specs.Chars.{stopped, Listing, ends, blank_lines, character_then, tagged}
 use Rattle.chars.proofs.CodeLaws.{still_required, none_required}
@@ -75,7 +70,7 @@ module _ (s : List ℕ) where
       (p ≡ 0) × (length s ≤ max_font_length) × (begins font_signature first ≡ true) ×
       (h : ℕ) × (rest : List ℕ) × (drop (length font_signature) first ≡ h ∷ rest) × (legal_hardblank h ≡ true) ×
       ((rest ≡ []) ⊎ ((x : ℕ) × (more : List ℕ) × (rest ≡ x ∷ more) ×
-      ((is_blank x ≡ false) ⊎ (length (parameter_numbers more) < 5) ⊎ ((v : Parameters) × (parameters (parameter_numbers more) ≡ All v) × (legal_parameters v ≡ false)))))
+      ((is_blank x ≡ false) ⊎ (length (parameter_numbers more) < 5) ⊎ ((v : Parameters) × (parameters (parameter_numbers more) ≡ Some v) × (legal_parameters v ≡ false)))))
 
   abbrev MissingLine : ℕ → Type 0
   MissingLine p =
@@ -92,19 +87,19 @@ module _ (s : List ℕ) where
   abbrev BadTagAt : ℕ → Type 0
   BadTagAt p =
       (h : Header) × (n : ℕ) × (l : TextLine) × (ls : List TextLine) × (p ≡ l.start) × Comes s h (character n) (l ∷ ls) × (required_count ≤ n) × (blank_lines (l ∷ ls) ≡ false) ×
-      ((code_number (first_word l.text) ≡ NotCode) ⊎ (code_number (first_word l.text) ≡ Named no_code))
+      ((code_number (first_word l.text) ≡ None) ⊎ (code_number (first_word l.text) ≡ Some no_code))
 
   abbrev TooMany : ℕ → Type 0
   TooMany p =
       (h : Header) × (n : ℕ) × (l : TextLine) × (ls : List TextLine) × (p ≡ l.start) × Comes s h (character n) (l ∷ ls) × (max_characters ≤ n) × (blank_lines (l ∷ ls) ≡ false) ×
-      (c : Code) × (tag_of l.text ≡ Tag c)
+      (c : Code) × (tag_of l.text ≡ Some c)
 
   -- the row of a number, and what it says of a place
   abbrev Nothing : ℕ → Type 0
   Nothing p = ⊥
 
   abbrev Row : Refusal → Type 0
-  Row r = get_or (Nothing ∷ TooLong ∷ NoSignature ∷ BadHardblank ∷ BadParameters ∷ MissingLine ∷ BadRowAt ∷ BadTagAt ∷ TooMany ∷ []) r.number Nothing r.place
+  Row r = get_or (Nothing ∷ TooLong ∷ NoSignature ∷ BadHardblank ∷ BadParameters ∷ MissingLine ∷ BadRowAt ∷ BadTagAt ∷ TooMany ∷ []) (number_of r.reason) Nothing r.place
 
   -- ---------------------------------------------------------------- a refusal is of its row
 
@@ -120,25 +115,25 @@ module _ (s : List ℕ) where
   character_met h n (l ∷ ls) r c (past_first w e t) = rows-met h n (h.height - 1) w ls r (come.past_first c w e) t
 
   -- a whole character is passed
-  rows_passed : (h : Header) (n k w v : ℕ) (ls : List TextLine) → Comes s h (more_rows n k w) ls → rows_on (format h) size k w ls ≡ read v → Comes s h (character (suc n)) (drop k ls)
+  rows_passed : (h : Header) (n k w v : ℕ) (ls : List TextLine) → Comes s h (more_rows n k w) ls → rows_on (format h) size k w ls ≡ Ok v → Comes s h (character (suc n)) (drop k ls)
   unfolding rows_on
   rows_passed h n zero w v ls c e = past_rows c
   rows_passed h n (suc k) w v [] c e = clash (cc)
   rows_passed h n (suc k) w v (l ∷ ls) c e = go (has_width (row_of (format h) l.text) w) refl e (rows_passed h n k w v ls)
     where
-      go : (b : Bool) → has_width (row_of (format h) l.text) w ≡ b → cond b (rows_on (format h) size k w ls) (refused (refusal bad_row l.start)) ≡ read v →
-          (Comes s h (more_rows n k w) ls → rows_on (format h) size k w ls ≡ read v → Comes s h (character (suc n)) (drop k ls)) → Comes s h (character (suc n)) (drop k ls)
+      go : (b : Bool) → has_width (row_of (format h) l.text) w ≡ b → cond b (rows_on (format h) size k w ls) (Err (refusal bad_row l.start)) ≡ Ok v →
+          (Comes s h (more_rows n k w) ls → rows_on (format h) size k w ls ≡ Ok v → Comes s h (character (suc n)) (drop k ls)) → Comes s h (character (suc n)) (drop k ls)
       go true q x more = more (past_row c (has_width_lem (row_of (format h) l.text) w q)) x
       go false q x more = clash (cc)
 
-  character_passed : (h : Header) (n v : ℕ) (ls : List TextLine) → Comes s h (first-row n) ls → character_rows (format h) size ls ≡ read v → Comes s h (character (suc n)) (drop (line_count (format h)) ls)
+  character_passed : (h : Header) (n v : ℕ) (ls : List TextLine) → Comes s h (first-row n) ls → character_rows (format h) size ls ≡ Ok v → Comes s h (character (suc n)) (drop (line_count (format h)) ls)
   unfolding character_rows
   character_passed h n v [] c e = clash (cc)
   character_passed h n v (l ∷ ls) c e = go (row_of (format h) l.text) refl e
     where
-      go : (x : RowStep) → row_of (format h) l.text ≡ x → other_rows (format h) size l.start x ls ≡ read v → Comes s h (character (suc n)) (drop (h.height - 1) ls)
-      go (Width w) p q = rows_passed h n (h.height - 1) w v ls (come.past_first c w p) q
-      go BadRow p q = clash (cc)
+      go : (x : Option ℕ) → row_of (format h) l.text ≡ x → other_rows (format h) size l.start x ls ≡ Ok v → Comes s h (character (suc n)) (drop (h.height - 1) ls)
+      go (Some w) p q = rows_passed h n (h.height - 1) w v ls (come.past_first c w p) q
+      go None p q = clash (cc)
 
   -- whether a required character is due
   still : (n c : ℕ) (cs : List ℕ) → c ∷ cs ≡ drop n required_codes → (n < required_count) × (cs ≡ drop (suc n) required_codes)
@@ -205,21 +200,21 @@ module _ (s : List ℕ) where
 
   -- ---------------------------------------------------------------- what a row says is refused so
 
-  abbrev Refuses : ℕ → ℕ → Type 0
-  Refuses number p = reading s ≡ refuses (refusal number p)
+  abbrev Refuses : Reason → ℕ → Type 0
+  Refuses k p = reading s ≡ refuses (refusal k p)
 
-  at_place : (number p q : ℕ) → p ≡ q → Refuses number q → Refuses number p
-  at_place number p q e r = subst (Refuses number) (sym e) r
+  at_place : (k : Reason) (p q : ℕ) → p ≡ q → Refuses k q → Refuses k p
+  at_place k p q e r = subst (Refuses k) (sym e) r
 
-  header-refuses : size ≤ max_font_length → (r : Refusal) → read_header first ≡ Refused r → reading s ≡ refuses r
+  header-refuses : size ≤ max_font_length → (r : Refusal) → read_header first ≡ Err r → reading s ≡ refuses r
   header-refuses u r e = short_is s u ∙ go (lines_from s 0) refl
     where
       go : (ls : List TextLine) → lines_from s 0 ≡ ls → on_lines size ls ≡ refuses r
       go [] q =
-          let d : Refused (refusal no_signature 0) ≡ Refused r = sym ((header_exactly first (refusal no_signature 0)).1 (signature (no_line_unsigned s q))) ∙ e in
+          let d : Err (refusal no_signature 0) ≡ Err r = sym ((header_exactly first (refusal no_signature 0)).1 (signature (no_line_unsigned s q))) ∙ e in
           let f : refusal no_signature 0 ≡ r = cc in
           ap refuses f
-      go (l ∷ ls) q = header-by size l ls (Refused r) (ap read_header (first-is l ls q) ∙ e)
+      go (l ∷ ls) q = header-by size l ls (Err r) (ap read_header (first-is l ls q) ∙ e)
 
   module _ (h : Header) where
     missing_comment : (k : ℕ) → Comes s h (comments (suc k)) [] → Refuses missing_line size
@@ -234,11 +229,11 @@ module _ (s : List ℕ) where
     missing-row n k w c = (decides s h _ _ c (refusal missing_line size)).1 refl
 
     module _ (n : ℕ) (l : TextLine) (ls : List TextLine) where
-      bad_first : Comes s h (first-row n) (l ∷ ls) → row_of (format h) l.text ≡ BadRow → Refuses bad_row l.start
+      bad_first : Comes s h (first-row n) (l ∷ ls) → row_of (format h) l.text ≡ None → Refuses bad_row l.start
       unfolding character_rows
       bad_first c e =
           (decides s h _ _ c (refusal bad_row l.start)).1
-          (ap (λ (x : RowStep). ending_by (other_rows (format h) size l.start x ls) (end_from s h (character (suc n)) (drop (h.height - 1) ls))) e)
+          (ap (λ (x : Option ℕ). ending_by (other_rows (format h) size l.start x ls) (end_from s h (character (suc n)) (drop (h.height - 1) ls))) e)
 
       bad_row_lem : (k w : ℕ) → Comes s h (more_rows n (suc k) w) (l ∷ ls) → has_width (row_of (format h) l.text) w ≡ false → Refuses bad_row l.start
       unfolding rows_on
@@ -252,9 +247,9 @@ module _ (s : List ℕ) where
         bad_tag : stops.BadCode l.text → Refuses bad_code_tag l.start
         bad_tag b =
             (decides s h _ _ c (refusal bad_code_tag l.start)).1
-            (no_required s h n (l ∷ ls) u ∙ ap (λ (x : Listing). x.ending) (tag_due (format h) size n l ls m ∙ ap (λ (x : TagStep). tagged x (format h) size l.start n ls more) ((stops.bad_exactly l.text).1 b)))
+            (no_required s h n (l ∷ ls) u ∙ ap (λ (x : Listing). x.ending) (tag_due (format h) size n l ls m ∙ ap (λ (x : Option Code). tagged x (format h) size l.start n ls more) ((stops.bad_exactly l.text).1 b)))
 
-        too_many : (z : Code) → tag_of l.text ≡ Tag z → max_characters ≤ n → Refuses too_many_characters l.start
+        too_many : (z : Code) → tag_of l.text ≡ Some z → max_characters ≤ n → Refuses too_many_characters l.start
         too_many z t v =
             (decides s h _ _ c (refusal too_many_characters l.start)).1
             (no_required s h n (l ∷ ls) u ∙

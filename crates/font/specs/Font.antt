@@ -1,13 +1,11 @@
 -- What a FIGfont says: document 01, "The refusal numbers" and "The font, line by line".
 -- Assumes nothing.
-use Rattle.std.specs.Prelude.{ℕ, cond, List, [], ◌∷◌, ltb, leb, length, drop}
+use Rattle.std.specs.Prelude.{ℕ, cond, Result, Ok, Err, List, [], ◌∷◌, ltb, leb, length, drop}
 use Rattle.ground.specs.Refusals.{refusal, font_too_long, no_signature, missing_line}
 use Rattle.ground.specs.declared.refusals.Refusal.{Refusal}
 use Rattle.ground.specs.Limits.{max_font_length}
 use Rattle.lines.specs.Lines.{TextLine, lines_from}
 use Rattle.header.specs.declared.Header.{Header}
-use Rattle.header.specs.declared.HeaderStep.{HeaderStep}
-use Rattle.header.specs.declared.HeaderStep.TheVariants.{Good, Refused}
 use Rattle.header.specs.Header.{read_header}
 use Rattle.rows.specs.declared.Format.{Format}
 use Rattle.chars.specs.declared.Entry.{Entry}
@@ -32,9 +30,9 @@ abbrev pub with_characters : Header → Listing → FontReading
 with_characters h x = reading_of h x.ending x.entries
 
 -- "After the comment lines come" the characters: the lines behind the header line of a font of the given size.
-abbrev pub after_header : HeaderStep → ℕ → List TextLine → FontReading
-after_header (Refused r) size ls = refuses r
-after_header (Good h) size ls =
+abbrev pub after_header : Result Header Refusal → ℕ → List TextLine → FontReading
+after_header (Err r) size ls = refuses r
+after_header (Ok h) size ls =
     cond (leb h.comment_lines (length ls)) (with_characters h (listing (format h) size required_codes 0 (drop h.comment_lines ls)))
     (refuses (refusal missing_line size))
 

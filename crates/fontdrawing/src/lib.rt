@@ -7,10 +7,9 @@ ghost use Rattle.ground.specs.Limits.{min_scratch};
 ghost use Rattle.drawing.specs.Drawing.{lined_of, draw_lined, PutOut};
 
 use drawing::DrawAnswer;
-use ground::refusals::Refusal;
-use ground::{limits, refusals};
+use ground::limits;
+use ground::refusals::{Reason, Refusal};
 use index::latest;
-use reader::FontAnswer;
 use source::Origin;
 
 // Reads the font and draws a text: its refusals, the control file's, 15, 16, then 9 for the output.
@@ -29,22 +28,22 @@ fn draw_once(
     let mut widths = [0usize; limits::MAX_CHARACTERS];
     let mut places = [0usize; latest::SMALL_CODES];
     match fontlists::read_font(font, &mut codes, &mut starts, &mut widths, &mut places) {
-        FontAnswer::Read { header, count } => drawing::draw_mapped(
+        Ok(read) => drawing::draw_mapped(
             out,
             area,
             text,
-            drawing::mode_of(header),
-            header.height,
+            drawing::mode_of(read.header),
+            read.header.height,
             font,
             font,
-            Origin::Font { count },
+            Origin::Font { count: read.count },
             &codes,
             &starts,
             &widths,
             &places,
             control,
         ),
-        FontAnswer::Refused(r) => drawing::refuse(r, out),
+        Err(r) => drawing::refuse(r, out),
     }
 }
 
@@ -59,13 +58,7 @@ fn draw_tested(
     ensures { PutOut (draw_lined (length scratch.old) font.now control.now text.now) (length out.old) result out.new }
 {
     if scratch.len() < limits::MIN_SCRATCH {
-        return drawing::refuse(
-            Refusal {
-                number: refusals::AREA_TOO_SMALL,
-                place: 0,
-            },
-            out,
-        );
+        return drawing::refuse(Refusal::of(Reason::AreaTooSmall), out);
     }
     draw_once(out, scratch, text, font, control)
 }

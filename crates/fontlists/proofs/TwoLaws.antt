@@ -2,6 +2,7 @@
 -- Assumes nothing.
 use mathlib.Core.Path.{◌≡◌, refl}
 use mathlib.Core.List.{List}
+use Rattle.std.specs.Prelude.{Option, Some, None}
 use Prim.Native.Nat.{ℕ}
 use lib.IntN.{ℤ, pos}
 use lib.ListN.{take}
@@ -12,8 +13,6 @@ use Rattle.header.specs.declared.Header.{Header}
 use Rattle.chars.specs.declared.Entry.{Entry}
 use Rattle.index.specs.Index.{CharacterRoom, Lists}
 use Rattle.index.specs.Latest.{small_codes, Latest}
-use Rattle.reader.specs.declared.Use.{Use}
-use Rattle.reader.specs.declared.Use.TheVariants as last
 use Rattle.reader.specs.Reader.{last_of, which_of, looked_up}
 use Rattle.fontlists.specs.TwoFonts.{first_try, looked_up_in_two}
 use Rattle.fontlists.specs.Held.{TwoHeld}
@@ -28,14 +27,14 @@ second-held s t h k n m codes starts widths places held =
     rw (part-behind max_characters codes, part-behind max_characters starts, part-behind max_characters widths, part-behind small_codes places) (held.second.long, held.second.lists, held.second.latest)
 
 -- The four tries are what both look-ups come to.
-either_try : (a b z w : Use) → either_of (which_of a z) (which_of b w) ≡ first_try a b z w
-either_try (last.Used e) b z w = refl
-either_try last.Nothing (last.Used f) (last.Used d) w = refl
-either_try last.Nothing (last.Used f) last.Nothing w = refl
-either_try last.Nothing last.Nothing (last.Used d) (last.Used g) = refl
-either_try last.Nothing last.Nothing (last.Used d) last.Nothing = refl
-either_try last.Nothing last.Nothing last.Nothing (last.Used g) = refl
-either_try last.Nothing last.Nothing last.Nothing last.Nothing = refl
+either_try : (a b z w : Option Entry) → either_of (which_of a z) (which_of b w) ≡ first_try a b z w
+either_try (Some e) b z w = refl
+either_try None (Some f) (Some d) w = refl
+either_try None (Some f) None w = refl
+either_try None None (Some d) (Some g) = refl
+either_try None None (Some d) None = refl
+either_try None None None (Some g) = refl
+either_try None None None None = refl
 
 pub either_looked_up : (c : Code) (es fs : List Entry) → either_of (looked_up c es) (looked_up c fs) ≡ looked_up_in_two c es fs
 unfolding looked_up looked_up_in_two

@@ -1,11 +1,9 @@
 -- Look-up in two fonts: document 02, Q-7. "A code missing from the first is sought in the second before any stand-in, then code 0 in the first, then in the
 -- second."
 -- Assumes nothing.
-use Rattle.std.specs.Prelude.{ℕ, List, pos}
+use Rattle.std.specs.Prelude.{ℕ, List, pos, Option, Some, None}
 use Rattle.subchars.specs.declared.Code.{Code}
 use Rattle.chars.specs.declared.Entry.{Entry}
-use Rattle.reader.specs.declared.Use.{Use}
-use Rattle.reader.specs.declared.Use.TheVariants as last
 use Rattle.reader.specs.Reader.{last_of}
 use Rattle.fontlists.specs.declared.two.Which.{Which}
 use Rattle.fontlists.specs.declared.two.Which.TheVariants.{First, Second}
@@ -13,12 +11,12 @@ use Rattle.fontlists.specs.declared.two.LookedUpInTwo.{LookedUpInTwo}
 use Rattle.fontlists.specs.declared.two.LookedUpInTwo.TheVariants.{Found, StoodIn, Nothing}
 
 -- The first of the four tries that has an entry: the code in the first font and in the second, code 0 in the first and in the second.
-abbrev pub first_try : Use → Use → Use → Use → LookedUpInTwo
-first_try (last.Used e) its zeroth other = Found First e
-first_try last.Nothing (last.Used e) zeroth other = Found Second e
-first_try last.Nothing last.Nothing (last.Used e) other = StoodIn First e
-first_try last.Nothing last.Nothing last.Nothing (last.Used e) = StoodIn Second e
-first_try last.Nothing last.Nothing last.Nothing last.Nothing = Nothing
+abbrev pub first_try : Option Entry → Option Entry → Option Entry → Option Entry → LookedUpInTwo
+first_try (Some e) its zeroth other = Found First e
+first_try None (Some e) zeroth other = Found Second e
+first_try None None (Some e) other = StoodIn First e
+first_try None None None (Some e) = StoodIn Second e
+first_try None None None None = Nothing
 
 -- The characters of the first font are es, those of the second fs. As in one font, the last entry of a code is the code's own.
 unfoldable pub looked_up_in_two : Code → List Entry → List Entry → LookedUpInTwo

@@ -9,8 +9,9 @@ ghost use Rattle.index.specs.Index.{CharacterRoom};
 ghost use Rattle.index.specs.Latest.{small_codes};
 ghost use Rattle.fontlists.specs.Held.{FontHeldBy};
 
+use ground::refusals::Refusal;
 use index::latest;
-use reader::FontAnswer;
+use reader::FontRead;
 
 // Reads a font into the lists, with the last place of each code below 256.
 pub fn read_font(
@@ -19,16 +20,12 @@ pub fn read_font(
     starts: &mut [usize],
     widths: &mut [usize],
     places: &mut [usize],
-) -> FontAnswer
+) -> Result<FontRead, Refusal>
     requires character_room { CharacterRoom max_characters codes.old starts.old widths.old }
     requires places_len { length places.old ≡ small_codes }
     ensures { FontHeldBy font.now result codes.new starts.new widths.new places.new }
 {
-    match reader::read_lists(font, codes, starts, widths) {
-        FontAnswer::Read { header, count } => {
-            latest::find_latest(&codes[..count], places);
-            FontAnswer::Read { header, count }
-        }
-        FontAnswer::Refused(r) => FontAnswer::Refused(r),
-    }
+    let read = reader::read_lists(font, codes, starts, widths)?;
+    latest::find_latest(&codes[..read.count], places);
+    Ok(read)
 }

@@ -55,11 +55,7 @@ fn either_of(first: LookedUp, second: LookedUp) -> LookedUpInTwo
                 font: Which::Second,
                 entry: its,
             },
-            LookedUp::StoodIn(_) => LookedUpInTwo::StoodIn {
-                font: Which::First,
-                entry,
-            },
-            LookedUp::Nothing => LookedUpInTwo::StoodIn {
+            _ => LookedUpInTwo::StoodIn {
                 font: Which::First,
                 entry,
             },

@@ -1,5 +1,4 @@
 -- The laws of the header: the numbers of a line, the parameters that they are, and what a header line is refused for.
-pub mod NumberLaws
 pub mod ParameterLaws
 pub mod LineLaws
 pub mod RefusalLaws

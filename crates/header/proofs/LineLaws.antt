@@ -12,7 +12,9 @@ use Rattle.ground.specs.Refusals.{no_signature, bad_hardblank, bad_parameters}
 use Rattle.ground.proofs.Runs.{rest-is}
 use Rattle.subchars.specs.declared.SubCharacter.{SubCharacter}
 use Rattle.lines.specs.Words.{is_blank}
-use Rattle.header.specs.declared.HeaderStep.{HeaderStep}
+use Rattle.std.specs.Prelude.{Result}
+use Rattle.ground.specs.declared.refusals.Refusal.{Refusal}
+use Rattle.header.specs.declared.Header.{Header}
 use Rattle.subchars.specs.Hardblank.{legal_hardblank}
 use Rattle.header.specs.Header.{parameter_numbers, refused, header_of, after_hardblank, after_signature, font_signature, read_header}
 
@@ -56,6 +58,6 @@ module _ (t : List ℕ) where
       pub not_blank_lem : 6 < length t → is_blank (get_or t 6 0) ≡ false → refused bad_parameters ≡ read_header t
       not_blank_lem k f = sym (at-blank k ∙ simp f)
 
-      pub numbered : (zs : List ℤ) (r : HeaderStep) → 6 < length t → is_blank (get_or t 6 0) ≡ true → zs ≡ parameter_numbers (take (length t - 7) (drop 7 t)) →
+      pub numbered : (zs : List ℤ) (r : Result Header Refusal) → 6 < length t → is_blank (get_or t 6 0) ≡ true → zs ≡ parameter_numbers (take (length t - 7) (drop 7 t)) →
           r ≡ header_of (sub_character_of (get_or t 5 0)) zs → r ≡ read_header t
       numbered zs r k f p q = q ∙ ap (header_of (sub_character_of (get_or t 5 0))) (p ∙ ap parameter_numbers (rest-is t 7)) ∙ sym (at-blank k ∙ simp f)

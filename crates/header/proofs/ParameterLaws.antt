@@ -1,45 +1,25 @@
--- The parameters that numbers are, and that legal ones but Old_Layout are not negative.
+-- The parameters that the numbers of a text are, as the reader finds them one by one, and that a legal height is one of 1 to 32.
 -- Assumes nothing.
 use mathlib.Core.Path.{◌≡◌, refl, sym, ap, ◌∙◌}
-use mathlib.Core.Bool.{Bool, true, ◌&&◌, false≢true}
+use mathlib.Core.Bool.{Bool, true, false, ◌&&◌, false≢true}
 use mathlib.Core.List.{List, [], ◌∷◌}
 use Prim.Native.Nat.{ℕ, zero, suc, ◌≤◌, ◌<◌}
 use native.Mathlib.Omega.{arith}
-use lib.Dec.{T, leb}
+use lib.Dec.{leb}
 use lib.IntN.{ℤ, pos, negsuc, nat_abs}
-use lib.ListN.{length, take, get_or, length-take}
-use lib.Seq.{get_or-take}
-use lib.Signed.{non_neg}
+use lib.ListN.{length}
 use borrow.Author.Tests.{leb-true}
+use Rattle.std.specs.Prelude.{Option, Some, None}
 use Rattle.ground.proofs.Tests.{and_left, and_right}
-use Rattle.lines.specs.Numbers.{highest}
-use Rattle.header.specs.declared.Parameter.{Parameter}
-use Rattle.header.specs.declared.Parameter.TheVariants.{Missing, Number}
-use Rattle.header.specs.declared.Parameters.{Parameters}
-use Rattle.header.specs.declared.ParameterStep.{ParameterStep}
-use Rattle.header.specs.declared.ParameterStep.TheVariants.{All, TooFew}
 use Rattle.ground.specs.Limits.{max_height, max_length_limit, max_rules, max_comment_lines, max_full_layout, max_direction}
-use Rattle.header.specs.Header.{parameter, parameters, min_old_layout, within, allowed, legal_parameters}
-use Rattle.header.specs.Steps.{not_negative}
+use Rattle.lines.specs.Words.{first_word}
+use Rattle.lines.specs.Numbers.{header_number, highest}
+use Rattle.header.specs.declared.Parameters.{Parameters}
+use Rattle.header.specs.Header.{numbers, parameter_numbers, parameter, parameters, min_old_layout, within, allowed, legal_parameters}
+use Rattle.header.specs.Steps.{behind}
 
--- One number of the first n.
-pub parameter_in : (v : List ℤ) (n k : ℕ) → k < n → k < length v → Number (get_or v k (pos 0)) ≡ parameter k (take n v)
-unfolding parameter
-parameter_in [] n k h l = absurd (omega arith)
-parameter_in (z ∷ v) zero k h l = absurd (omega arith)
-parameter_in (z ∷ v) (suc n) zero h l = refl
-parameter_in (z ∷ v) (suc n) (suc k) h l = parameter_in v n k (omega arith) (omega arith)
-
-pub parameter_out : (v : List ℤ) (n k : ℕ) → n ≤ k → Missing ≡ parameter k (take n v)
-unfolding parameter
-parameter_out [] zero k h = refl
-parameter_out [] (suc n) k h = refl
-parameter_out (z ∷ v) zero k h = refl
-parameter_out (z ∷ v) (suc n) zero h = absurd (omega arith)
-parameter_out (z ∷ v) (suc n) (suc k) h = parameter_out v n k (omega arith)
-
--- Under five numbers, and five or more.
-pub too_few : (zs : List ℤ) → length zs < 5 → TooFew ≡ parameters zs
+-- Under five numbers.
+pub too_few : (zs : List ℤ) → length zs < 5 → None ≡ parameters zs
 unfolding parameters
 too_few [] h = refl
 too_few (a ∷ []) h = refl
@@ -48,134 +28,110 @@ too_few (a ∷ b ∷ c ∷ []) h = refl
 too_few (a ∷ b ∷ c ∷ d ∷ []) h = refl
 too_few (a ∷ b ∷ c ∷ d ∷ e ∷ zs) h = absurd (omega arith)
 
-pub too_few_of : (v : List ℤ) (n : ℕ) → n < 5 → TooFew ≡ parameters (take n v)
-too_few_of v n h = too_few (take n v) (omega (arith, length-take n v))
+-- What the reader finds at t: r is the number there, and u is what is left then.
+pub record Next (t : List ℕ) (r : Option ℤ) (u : List ℕ) : Type 0 where
+  pub number : r ≡ header_number (first_word t)
+  pub rest : u ≡ behind r t
 
-abbrev named : ℤ → ℤ → ℤ → ℤ → ℤ → Parameter → Parameter → Parameter → ParameterStep
-named h b m o c d f t =
-    All
-    (record { height = h; baseline = b; max_length = m; old_layout = o; comment_lines = c; print_direction = d; full_layout = f; codetag_count = t })
+none_left : (k : ℕ) (t : List ℕ) → header_number (first_word t) ≡ None → numbers k t ≡ []
+unfolding numbers
+none_left zero t e = refl
+none_left (suc k) t e = simp e
 
--- the k-th of the values that are held
-abbrev pub nth : List ℤ → ℕ → ℤ
-nth v k = get_or v k (pos 0)
+pub one_more : (k : ℕ) (t : List ℕ) (z : ℤ) (u : List ℕ) → Next t (Some z) u → numbers (suc k) t ≡ z ∷ numbers k u
+unfolding numbers
+one_more k t z u n = simp (sym n.number) (ap (λ (l : List ℕ). z ∷ numbers k l) (sym n.rest))
 
-module _ (h b m o c : ℤ) (d f t : Parameter) where
-  all-is : (zs : List ℤ) → 5 ≤ length zs → h ≡ nth zs 0 → b ≡ nth zs 1 → m ≡ nth zs 2 → o ≡ nth zs 3 → c ≡ nth zs 4 →
-      d ≡ parameter 5 zs → f ≡ parameter 6 zs → t ≡ parameter 7 zs → named h b m o c d f t ≡ parameters zs
-  unfolding parameters parameter
-  all-is [] l p0 p1 p2 p3 p4 p5 p6 p7 = absurd (omega arith)
-  all-is (a ∷ []) l p0 p1 p2 p3 p4 p5 p6 p7 = absurd (omega arith)
-  all-is (a ∷ b ∷ []) l p0 p1 p2 p3 p4 p5 p6 p7 = absurd (omega arith)
-  all-is (a ∷ b ∷ c ∷ []) l p0 p1 p2 p3 p4 p5 p6 p7 = absurd (omega arith)
-  all-is (a ∷ b ∷ c ∷ d ∷ []) l p0 p1 p2 p3 p4 p5 p6 p7 = absurd (omega arith)
-  all-is (a ∷ b ∷ c ∷ d ∷ e ∷ zs) l p0 p1 p2 p3 p4 p5 p6 p7 = cc
+pub no_more : (k : ℕ) (t : List ℕ) (u : List ℕ) → Next t None u → numbers k t ≡ []
+no_more k t u n = none_left k t (sym n.number)
 
-  pub all_of : (v : List ℤ) (n : ℕ) → 5 ≤ n → 5 ≤ length v → h ≡ nth v 0 → b ≡ nth v 1 → m ≡ nth v 2 → o ≡ nth v 3 → c ≡ nth v 4 →
-      d ≡ parameter 5 (take n v) → f ≡ parameter 6 (take n v) → t ≡ parameter 7 (take n v) → named h b m o c d f t ≡ parameters (take n v)
-  all_of v n k l p0 p1 p2 p3 p4 =
-      all-is (take n v) (omega (arith, length-take n v)) (p0 ∙ held 0 (omega arith)) (p1 ∙ held 1 (omega arith)) (p2 ∙ held 2 (omega arith)) (p3 ∙ held 3 (omega arith)) (p4 ∙ held 4 (omega arith))
-    where
-      held : (i : ℕ) → i < 5 → nth v i ≡ nth (take n v) i
-      held i q = sym (get_or-take n v i (pos 0) (omega arith))
+-- The number found is the first of those left, and a later one stands in what is left then.
+module _ (k : ℕ) (t : List ℕ) where
+  pub first_parameter : (r : Option ℤ) (u : List ℕ) → Next t r u → parameter 0 (numbers (suc k) t) ≡ r
+  unfolding parameter
+  first_parameter (Some z) u n = ap (parameter 0) (one_more k t z u n)
+  first_parameter None u n = ap (parameter 0) (no_more (suc k) t u n)
 
--- What a range with a lower bound of 0 or more says.
-not_negative_lem : (k : ℕ) (high z : ℤ) → within (pos k) high z ≡ true → T (non_neg z)
-unfolding within
-not_negative_lem k high (pos n) e = tt
-not_negative_lem k high (negsuc n) e = absurd (false≢true e)
+  pub later_parameter : (j : ℕ) (r : Option ℤ) (u : List ℕ) → Next t r u → parameter (suc j) (numbers (suc k) t) ≡ parameter j (numbers k u)
+  unfolding parameter
+  later_parameter j (Some z) u n = ap (parameter (suc j)) (one_more k t z u n)
+  later_parameter j None u n =
+      ap (parameter (suc j)) (no_more (suc k) t u n) ∙ sym (ap (parameter j) (ap (numbers k) n.rest ∙ no_more k t u n))
 
-if_given : (high : ℤ) (p : Parameter) → allowed high p ≡ true → T (not_negative p)
-unfolding allowed
-if_given high Missing e = tt
-if_given high (Number z) e = not_negative_lem 0 high z e
+-- The numbers of a text t, one after the other: what is left after each of the five that are required, and the parameters then.
+module _ (t : List ℕ) where
+  pub no_height : (u : List ℕ) → Next t None u → None ≡ parameters (parameter_numbers t)
+  unfolding parameter_numbers parameters
+  no_height u n = sym (ap parameters (no_more 8 t u n))
 
--- The conjuncts of a test, one after the other.
-module _ (a b c d e f g h : Bool) where
-  record Every : Type 0 where
-    pub t0 : a ≡ true
-    pub t1 : b ≡ true
-    pub t2 : c ≡ true
-    pub t4 : e ≡ true
-    pub t5 : f ≡ true
-    pub t6 : g ≡ true
-    pub t7 : h ≡ true
+  module _ (a : ℤ) (t1 : List ℕ) (n1 : Next t (Some a) t1) where
+    one : parameter_numbers t ≡ a ∷ numbers 7 t1
+    unfolding parameter_numbers
+    one = one_more 7 t a t1 n1
 
-  every : (a && b && c && d && e && f && g && h) ≡ true → Every
-  every t =
-      let s6 = and_left (a && b && c && d && e && f && g) h t in
-      let s5 = and_left (a && b && c && d && e && f) g s6 in
-      let s4 = and_left (a && b && c && d && e) f s5 in
-      let s3 = and_left (a && b && c && d) e s4 in
-      let s2 = and_left (a && b && c) d s3 in
-      let s1 = and_left (a && b) c s2 in
-      record {
-        t0 = and_left a b s1;
-        t1 = and_right a b s1;
-        t2 = and_right (a && b) c s2;
-        t4 = and_right (a && b && c && d) e s4;
-        t5 = and_right (a && b && c && d && e) f s5;
-        t6 = and_right (a && b && c && d && e && f) g s6;
-        t7 = and_right (a && b && c && d && e && f && g) h t;
-      }
+    pub no_baseline : (u : List ℕ) → Next t1 None u → None ≡ parameters (parameter_numbers t)
+    unfolding parameters
+    no_baseline u n = sym (ap parameters (one ∙ ap (λ (l : List ℤ). a ∷ l) (no_more 7 t1 u n)))
 
--- None of the legal parameters but Old_Layout is negative.
-pub record Sizes (p : Parameters) : Type 0 where
-  pub height : T (non_neg p.height)
-  pub baseline : T (non_neg p.baseline)
-  pub longest : T (non_neg p.max_length)
-  pub comments : T (non_neg p.comment_lines)
-  pub direction : T (not_negative p.print_direction)
-  pub layout : T (not_negative p.full_layout)
-  pub tags : T (not_negative p.codetag_count)
+    module _ (b : ℤ) (t2 : List ℕ) (n2 : Next t1 (Some b) t2) where
+      two : parameter_numbers t ≡ a ∷ b ∷ numbers 6 t2
+      two = one ∙ ap (λ (l : List ℤ). a ∷ l) (one_more 6 t1 b t2 n2)
 
--- The ranges of legal parameters, one after the other.
-ranges : (p : Parameters) → legal_parameters p ≡ true →
-    Every (within (pos 1) (pos max_height) p.height) (within (pos 1) p.height p.baseline) (within (pos 1) (pos max_length_limit) p.max_length)
-    (within min_old_layout (pos max_rules) p.old_layout) (within (pos 0) (pos max_comment_lines) p.comment_lines) (allowed (pos max_direction) p.print_direction)
-    (allowed (pos max_full_layout) p.full_layout) (allowed highest p.codetag_count)
-unfolding legal_parameters
-ranges p e =
-    every (within (pos 1) (pos max_height) p.height) (within (pos 1) p.height p.baseline) (within (pos 1) (pos max_length_limit) p.max_length)
-    (within min_old_layout (pos max_rules) p.old_layout) (within (pos 0) (pos max_comment_lines) p.comment_lines) (allowed (pos max_direction) p.print_direction)
-    (allowed (pos max_full_layout) p.full_layout) (allowed highest p.codetag_count) e
+      pub no_length : (u : List ℕ) → Next t2 None u → None ≡ parameters (parameter_numbers t)
+      unfolding parameters
+      no_length u n = sym (ap parameters (two ∙ ap (λ (l : List ℤ). a ∷ b ∷ l) (no_more 6 t2 u n)))
 
-pub sizes : (p : Parameters) → legal_parameters p ≡ true → Sizes p
-sizes p e =
-    let s = ranges p e in
-    record {
-      height = not_negative_lem 1 (pos max_height) p.height s.t0;
-      baseline = not_negative_lem 1 p.height p.baseline s.t1;
-      longest = not_negative_lem 1 (pos max_length_limit) p.max_length s.t2;
-      comments = not_negative_lem 0 (pos max_comment_lines) p.comment_lines s.t4;
-      direction = if_given (pos max_direction) p.print_direction s.t5;
-      layout = if_given (pos max_full_layout) p.full_layout s.t6;
-      tags = if_given highest p.codetag_count s.t7;
-    }
+      module _ (c : ℤ) (t3 : List ℕ) (n3 : Next t2 (Some c) t3) where
+        three : parameter_numbers t ≡ a ∷ b ∷ c ∷ numbers 5 t3
+        three = two ∙ ap (λ (l : List ℤ). a ∷ b ∷ l) (one_more 5 t2 c t3 n3)
+
+        pub no_layout : (u : List ℕ) → Next t3 None u → None ≡ parameters (parameter_numbers t)
+        unfolding parameters
+        no_layout u n = sym (ap parameters (three ∙ ap (λ (l : List ℤ). a ∷ b ∷ c ∷ l) (no_more 5 t3 u n)))
+
+        module _ (d : ℤ) (t4 : List ℕ) (n4 : Next t3 (Some d) t4) where
+          four : parameter_numbers t ≡ a ∷ b ∷ c ∷ d ∷ numbers 4 t4
+          four = three ∙ ap (λ (l : List ℤ). a ∷ b ∷ c ∷ l) (one_more 4 t3 d t4 n4)
+
+          pub no_comments : (u : List ℕ) → Next t4 None u → None ≡ parameters (parameter_numbers t)
+          unfolding parameters
+          no_comments u n = sym (ap parameters (four ∙ ap (λ (l : List ℤ). a ∷ b ∷ c ∷ d ∷ l) (no_more 4 t4 u n)))
+
+          module _ (e : ℤ) (t5 : List ℕ) (n5 : Next t4 (Some e) t5) (f g h : Option ℤ) (t6 t7 t8 : List ℕ) (n6 : Next t5 f t6) (n7 : Next t6 g t7) (n8 : Next t7 h t8) where
+            five : parameter_numbers t ≡ a ∷ b ∷ c ∷ d ∷ e ∷ numbers 3 t5
+            five = four ∙ ap (λ (l : List ℤ). a ∷ b ∷ c ∷ d ∷ l) (one_more 3 t4 e t5 n5)
+
+            -- the three that may be missing
+            direction : parameter 0 (numbers 3 t5) ≡ f
+            direction = first_parameter 2 t5 f t6 n6
+
+            full : parameter 1 (numbers 3 t5) ≡ g
+            full = later_parameter 2 t5 0 f t6 n6 ∙ first_parameter 1 t6 g t7 n7
+
+            tags : parameter 2 (numbers 3 t5) ≡ h
+            tags = later_parameter 2 t5 1 f t6 n6 ∙ later_parameter 1 t6 0 g t7 n7 ∙ first_parameter 0 t7 h t8 n8
+
+            pub all_named : Some (record { height = a; baseline = b; max_length = c; old_layout = d; comment_lines = e; print_direction = f; full_layout = g; codetag_count = h }) ≡ parameters (parameter_numbers t)
+            unfolding parameters
+            all_named = sym (ap parameters five ∙ simp (direction, full, tags))
 
 -- "Height 1 to 32."
 abbrev pub High : ℕ → Type 0
 High n = (1 ≤ n) × (n ≤ max_height)
 
+-- the first of a chain of tests
+first_test : (a b c d e f g h : Bool) → (a && b && c && d && e && f && g && h) ≡ true → a ≡ true
+first_test true b c d e f g h t = refl
+first_test false b c d e f g h t = t
+
 pub high : (p : Parameters) → legal_parameters p ≡ true → High (nat_abs p.height)
-unfolding within
-high p e = by p.height (ranges p e).t0
+unfolding within legal_parameters
+high p e =
+    by p.height
+    (first_test (within (pos 1) (pos max_height) p.height) (within (pos 1) p.height p.baseline) (within (pos 1) (pos max_length_limit) p.max_length)
+    (within min_old_layout (pos max_rules) p.old_layout) (within (pos 0) (pos max_comment_lines) p.comment_lines) (allowed (pos max_direction) p.print_direction)
+    (allowed (pos max_full_layout) p.full_layout) (allowed highest p.codetag_count) e)
   where
     by : (z : ℤ) → within (pos 1) (pos max_height) z ≡ true → High (nat_abs z)
     by (pos n) t = (leb-true 1 n (and_left (leb 1 n) (leb n max_height) t), leb-true n max_height (and_right (leb 1 n) (leb n max_height) t))
     by (negsuc n) t = absurd (false≢true t)
-
--- Equal arguments, as the calls of the code have them.
-pub and_eq : (r a b a' b' : Bool) → r ≡ (a && b) → a ≡ a' → b ≡ b' → r ≡ (a' && b')
-and_eq r a b a' b' p q s = p ∙ ap (λ (x : Bool). x && b) q ∙ ap (λ (y : Bool). a' && y) s
-
-pub within_eq : (r : Bool) (low high z low' high' z' : ℤ) → r ≡ within low high z → low ≡ low' → high ≡ high' → z ≡ z' → r ≡ within low' high' z'
-within_eq r low high z low' high' z' e p q s = cc
-
-pub allowed-number : (high z : ℤ) (p : Parameter) (r : Bool) → p ≡ Number z → r ≡ within (pos 0) high z → r ≡ allowed high p
-unfolding allowed
-allowed-number high z p r e q = q ∙ sym (ap (allowed high) e)
-
-pub allowed-missing : (high : ℤ) (p : Parameter) → p ≡ Missing → true ≡ allowed high p
-unfolding allowed
-allowed-missing high p e = sym (ap (allowed high) e)

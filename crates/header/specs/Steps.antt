@@ -1,29 +1,18 @@
--- What the reader of a header holds on the way: the numbers found so far, and the next one.
+-- Steps of the reader of a header: how it goes on behind a word, and the ranges of the parameters that are required.
 -- Assumes nothing.
-use Rattle.std.specs.Prelude.{ℕ, ◌+◌, Bool, true, List, take, drop, ℤ}
-use Rattle.std.specs.Int.Signed.{non_neg}
-use Rattle.lines.specs.Words.{first_word, word_end}
-use Rattle.lines.specs.Numbers.{header_number}
-use Rattle.lines.specs.declared.numbers.Number.{Number as Read}
-use Rattle.lines.specs.declared.numbers.Number.TheVariants.{Value, NotNumber}
-use Rattle.header.specs.declared.Numbers.{Numbers}
-use Rattle.header.specs.declared.Parameter.{Parameter}
-use Rattle.header.specs.declared.Parameter.TheVariants.{Missing, Number}
-use Rattle.header.specs.declared.WordStep.{WordStep}
-use Rattle.header.specs.declared.WordStep.TheVariants.{Word, NoWord}
+use Rattle.std.specs.Prelude.{ℕ, Bool, ◌&&◌, List, ℤ, pos, Option, Some, None}
+use Rattle.ground.specs.Limits.{max_height, max_length_limit, max_rules, max_comment_lines}
+use Rattle.lines.specs.Words.{after_word}
+use Rattle.header.specs.declared.Parameters.{Parameters}
+use Rattle.header.specs.Header.{min_old_layout, within}
 
--- The numbers that are held: the first of the values.
-abbrev pub numbers_held : Numbers → List ℤ
-numbers_held ns = take ns.count ns.values
+-- What is left of a text after its first word was read.
+abbrev pub behind : Option ℤ → List ℕ → List ℕ
+behind (Some z) t = after_word t
+behind None t = t
 
-abbrev pub not_negative : Parameter → Bool
-not_negative Missing = true
-not_negative (Number z) = non_neg z
-
--- One word by places, the first from a place on: the number that it is, and where it ends.
-abbrev pub word_next : Read → ℕ → WordStep
-word_next (Value z) next = Word z next
-word_next NotNumber next = NoWord
-
-unfoldable pub word_step : List ℕ → ℕ → WordStep
-word_step t at = word_next (header_number (first_word (drop at t))) (at + word_end (drop at t))
+-- The required parameters are within their ranges; `legal_parameters` asks this and the ranges of the others.
+abbrev pub legal_required : Parameters → Bool
+legal_required p =
+    within (pos 1) (pos max_height) p.height && within (pos 1) p.height p.baseline && within (pos 1) (pos max_length_limit) p.max_length &&
+    within min_old_layout (pos max_rules) p.old_layout && within (pos 0) (pos max_comment_lines) p.comment_lines

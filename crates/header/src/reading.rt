@@ -1,21 +1,17 @@
 // The parameters of a header: the numbers at the start of a text, their ranges, and the header that they make.
-ghost use Rattle.std.specs.Prelude.{◌≡◌, true, ◌<◌, ◌≤◌, T, nat_abs, length};
-ghost use Rattle.std.specs.Int.Signed.{non_neg};
-ghost use Rattle.header.specs.Header.{max_parameters, parameter_numbers, parameter, parameters, within, allowed, legal_parameters, given, layout_of, header, header_of};
-ghost use Rattle.header.specs.Steps.{numbers_held, not_negative, word_step};
+ghost use Rattle.std.specs.Prelude.{◌≡◌, nat_abs};
+ghost use Rattle.lines.specs.Words.{first_word};
+ghost use Rattle.lines.specs.Numbers.{header_number};
+ghost use Rattle.header.specs.Header.{parameter_numbers, parameters, within, allowed, legal_parameters, given, layout_of, header, header_of};
+ghost use Rattle.header.specs.Steps.{behind, legal_required};
 
-use crate::{
-    Given, Header, HeaderStep, MAX_PARAMETERS, Numbers, Parameter, ParameterStep, Parameters,
-    WordStep,
-};
-use ground::{both, limits, refusals};
-use lines::numbers::Number;
+use crate::{Header, Parameters};
+use ground::limits;
+use ground::refusals::{Reason, Refusal};
 use lines::{numbers, words};
 use subchars::{Layout, SubCharacter};
 
-// How many parameters are required, and the ranges of all.
-const REQUIRED_PARAMETERS: usize = 5;
-
+// The ranges of the parameters.
 const MAX_HEIGHT: i32 = limits::MAX_HEIGHT as i32;
 
 const MAX_LENGTH: i32 = limits::MAX_LENGTH as i32;
@@ -30,151 +26,107 @@ const MAX_DIRECTION: i32 = limits::MAX_DIRECTION as i32;
 
 const MAX_FULL_LAYOUT: i32 = limits::MAX_FULL_LAYOUT as i32;
 
-const MAX_CODETAG_COUNT: i32 = 2147483647;
+const MAX_CODETAG_COUNT: i32 = i32::MAX;
 
-// The first word from a place on: the number that it is, and where it ends.
-fn next_number(t: &[u8], at: usize) -> WordStep
-    requires { at ≤ length t.now }
-    ensures { result ≡ word_step t.now at }
+// The number that the first word of a text is. The text then goes on behind the word; it stays where the word is no number.
+fn next_number(text: &mut &[u8]) -> Option<i32>
+    ensures number { result ≡ header_number (first_word text.old.now) }
+    ensures rest { text.new.now ≡ behind result text.old.now }
 {
-    let rest = &t[at..];
-    let word = words::first_word(rest);
-    let start = word.start;
-    let end = word.end;
-    match numbers::header_number(&rest[start..end]) {
-        Number::Value(z) => WordStep::Word {
-            value: z,
-            next: at + end,
-        },
-        Number::NotNumber => WordStep::NoWord,
-    }
+    let t = *text;
+    let word = words::first_word(t);
+    let number = numbers::header_number(&t[word.start..word.end])?;
+    *text = &t[word.end..];
+    Some(number)
 }
 
-// The numbers at the start of a text: up to the first word that is no number, and at most eight.
-pub fn find_numbers(t: &[u8]) -> Numbers
-    ensures { numbers_held result ≡ parameter_numbers t.now }
+// The parameters by their names: the numbers at the start of a text, of which five are required.
+fn parameters_of(t: &[u8]) -> Option<Parameters>
+    ensures { result ≡ parameters (parameter_numbers t.now) }
 {
-    let mut values = [0i32; MAX_PARAMETERS];
-    let mut n: usize = 0;
-    let mut at: usize = 0;
-    while n < MAX_PARAMETERS {
-        match next_number(t, at) {
-            WordStep::Word { value, next } => {
-                values[n] = value;
-                at = next;
-                n += 1;
-            }
-            WordStep::NoWord => {
-                return Numbers { values, count: n };
-            }
-        }
-    }
-    Numbers { values, count: n }
-}
-
-// The k-th of the numbers, from 0, if there is one.
-fn parameter_at(ns: Numbers, k: usize) -> Parameter
-    requires { k < max_parameters }
-    ensures { result ≡ parameter k (numbers_held ns) }
-{
-    let v = ns.values;
-    if k < ns.count {
-        return Parameter::Number(v[k]);
-    }
-    Parameter::Missing
-}
-
-// The parameters by their names.
-fn parameters_of(ns: Numbers) -> ParameterStep
-    ensures { result ≡ parameters (numbers_held ns) }
-{
-    if ns.count < REQUIRED_PARAMETERS {
-        return ParameterStep::TooFew;
-    }
-    let v = ns.values;
-    ParameterStep::All(Parameters {
-        height: v[0],
-        baseline: v[1],
-        max_length: v[2],
-        old_layout: v[3],
-        comment_lines: v[4],
-        print_direction: parameter_at(ns, 5),
-        full_layout: parameter_at(ns, 6),
-        codetag_count: parameter_at(ns, 7),
+    let mut rest = t;
+    let height = next_number(&mut rest)?;
+    let baseline = next_number(&mut rest)?;
+    let max_length = next_number(&mut rest)?;
+    let old_layout = next_number(&mut rest)?;
+    let comment_lines = next_number(&mut rest)?;
+    let print_direction = next_number(&mut rest);
+    let full_layout = next_number(&mut rest);
+    let codetag_count = next_number(&mut rest);
+    Some(Parameters {
+        height,
+        baseline,
+        max_length,
+        old_layout,
+        comment_lines,
+        print_direction,
+        full_layout,
+        codetag_count,
     })
 }
 
+#[tactic(auto, unfolding(crate::specs::Header::within))]
 fn is_within(z: i32, low: i32, high: i32) -> bool
     ensures { result ≡ within low high z }
 {
-    both(low <= z, z <= high)
+    low <= z && z <= high
 }
 
 // Whether a parameter that may be missing is between 0 and its upper bound if it is there.
-fn is_allowed(p: Parameter, high: i32) -> bool
+#[tactic(auto, unfolding(crate::specs::Header::allowed))]
+fn is_allowed(p: Option<i32>, high: i32) -> bool
     ensures { result ≡ allowed high p }
 {
-    match p {
-        Parameter::Number(z) => is_within(z, 0, high),
-        Parameter::Missing => true,
-    }
+    p.is_none_or(|z| is_within(z, 0, high))
 }
 
+// Whether the five parameters that are required are within their ranges.
+fn is_legal_without_options(p: Parameters) -> bool
+    ensures { result ≡ legal_required p }
+{
+    is_within(p.height, 1, MAX_HEIGHT)
+        && is_within(p.baseline, 1, p.height)
+        && is_within(p.max_length, 1, MAX_LENGTH)
+        && is_within(p.old_layout, MIN_OLD_LAYOUT, MAX_OLD_LAYOUT)
+        && is_within(p.comment_lines, 0, MAX_COMMENT_LINES)
+}
+
+#[tactic(auto, unfolding(crate::specs::Header::legal_parameters))]
 fn is_legal(p: Parameters) -> bool
     ensures { result ≡ legal_parameters p }
 {
-    let direction = p.print_direction;
-    let full = p.full_layout;
-    let tags = p.codetag_count;
-    let a = both(
-        is_within(p.height, 1, MAX_HEIGHT),
-        is_within(p.baseline, 1, p.height),
-    );
-    let b = both(a, is_within(p.max_length, 1, MAX_LENGTH));
-    let c = both(b, is_within(p.old_layout, MIN_OLD_LAYOUT, MAX_OLD_LAYOUT));
-    let d = both(c, is_within(p.comment_lines, 0, MAX_COMMENT_LINES));
-    let e = both(d, is_allowed(direction, MAX_DIRECTION));
-    let f = both(e, is_allowed(full, MAX_FULL_LAYOUT));
-    both(f, is_allowed(tags, MAX_CODETAG_COUNT))
+    is_legal_without_options(p)
+        && is_allowed(p.print_direction, MAX_DIRECTION)
+        && is_allowed(p.full_layout, MAX_FULL_LAYOUT)
+        && is_allowed(p.codetag_count, MAX_CODETAG_COUNT)
 }
 
-// A number that is not negative.
+// The size of a number; a legal parameter but Old_Layout is its own size.
 fn size_of(z: i32) -> usize
-    requires { T (non_neg z) }
     ensures { result ≡ nat_abs z }
 {
-    z as usize
+    z.unsigned_abs() as usize
 }
 
-fn given_of(p: Parameter) -> Given
-    requires { T (not_negative p) }
+fn given_of(p: Option<i32>) -> Option<usize>
     ensures { result ≡ given p }
 {
-    match p {
-        Parameter::Number(z) => Given::Of(size_of(z)),
-        Parameter::Missing => Given::Absent,
-    }
+    p.map(size_of)
 }
 
 // The layout that Old_Layout or, where it stands, Full_Layout gives.
-fn layout_of(old: i32, full: Given) -> Layout
+fn layout_of(old: i32, full: Option<usize>) -> Layout
     ensures { result ≡ layout_of old full }
 {
-    match full {
-        Given::Of(f) => Layout::from_full(f),
-        Given::Absent => Layout::from_old(old),
-    }
+    full.map_or(Layout::from_old(old), Layout::from_full)
 }
 
 // The header of legal parameters.
+#[tactic(auto, unfolding(crate::specs::Header::header))]
 fn legal_header(hardblank: SubCharacter, p: Parameters) -> Header
-    requires { legal_parameters p ≡ true }
     ensures { result ≡ header hardblank p }
 {
-    let direction = p.print_direction;
-    let full = p.full_layout;
-    let tags = p.codetag_count;
-    let full_layout = given_of(full);
+    let full_layout = given_of(p.full_layout);
     Header {
         hardblank,
         height: size_of(p.height),
@@ -182,24 +134,20 @@ fn legal_header(hardblank: SubCharacter, p: Parameters) -> Header
         max_length: size_of(p.max_length),
         old_layout: p.old_layout,
         comment_lines: size_of(p.comment_lines),
-        print_direction: given_of(direction),
+        print_direction: given_of(p.print_direction),
         full_layout,
-        codetag_count: given_of(tags),
+        codetag_count: given_of(p.codetag_count),
         layout: layout_of(p.old_layout, full_layout),
     }
 }
 
-// The header that the numbers of a line make.
-pub fn header_of(hardblank: SubCharacter, ns: Numbers) -> HeaderStep
-    ensures { result ≡ header_of hardblank (numbers_held ns) }
+// The header that the numbers at the start of a text make.
+#[tactic(auto, unfolding(crate::specs::Header::header_of))]
+pub fn header_of(hardblank: SubCharacter, t: &[u8]) -> Result<Header, Refusal>
+    ensures { result ≡ header_of hardblank (parameter_numbers t.now) }
 {
-    match parameters_of(ns) {
-        ParameterStep::All(p) => {
-            if is_legal(p) {
-                return HeaderStep::Good(legal_header(hardblank, p));
-            }
-            crate::refusal(refusals::BAD_PARAMETERS)
-        }
-        ParameterStep::TooFew => crate::refusal(refusals::BAD_PARAMETERS),
+    match parameters_of(t) {
+        Some(p) if is_legal(p) => Ok(legal_header(hardblank, p)),
+        _ => Err(Refusal::of(Reason::BadParameters)),
     }
 }

@@ -10,40 +10,37 @@ use lib.Dec.{ltb}
 use lib.IntN.{ℤ}
 use lib.ListN.{length, take, set, length-set, length-append}
 use borrow.Author.Tests.{ltb-true, ltb-false}
+use Rattle.std.specs.Prelude.{Option, Some, None, Ok, Err}
 use Rattle.ground.specs.Refusals.{refusal, too_many_characters}
 use Rattle.ground.specs.declared.refusals.Refusal.{Refusal}
 use Rattle.ground.proofs.Tests.{clash}
 use Rattle.ground.proofs.Areas.{map_more}
 use Rattle.ground.specs.Limits.{max_characters}
-use Rattle.lines.specs.declared.Cursor.{Cursor}
 use Rattle.rows.specs.declared.Format.{Format}
 use Rattle.chars.specs.declared.Entry.{Entry}
-use Rattle.chars.specs.declared.TagAt.{TagAt}
-use Rattle.chars.specs.declared.TagAt.TheVariants.{TagLine, NoTag}
-use Rattle.chars.specs.declared.CharNext.{CharNext}
-use Rattle.chars.specs.declared.CharNext.TheVariants.{Listed, Complete, Stopped}
+use Rattle.chars.specs.declared.TagLine.{TagLine}
+use Rattle.chars.specs.declared.Listed.{Listed}
 use Rattle.chars.specs.Codes.{required_count}
 use Rattle.chars.specs.Chars.{Ending, finished, stopped, Listing, ends}
-use Rattle.chars.specs.Steps.{listed_at, tag_at, blank_from, tagged_then, tagged_at, next_of, next_at}
+use Rattle.chars.specs.Steps.{Next, listed_at, tag_at, blank_from, tagged_then, tagged_at, next_of, next_at}
 use Rattle.chars.proofs.CodeLaws.{none_required}
 use Rattle.chars.proofs.ListingLaws.{rest, following, rest_step}
-use Rattle.index.specs.declared.Filling.TheVariants.{Filled, Failed}
 use Rattle.index.specs.Index.{listing_at, ended_by, CharacterRoom, Indexed, code_of, start_of, width_of}
 
 -- A character is listed only where there is room.
-pub listed-room : (f : Format) (s : List ℕ) (at n : ℕ) (e : Entry) (next : Cursor) → Listed e next ≡ next_at f s at n → n < max_characters
+pub listed-room : (f : Format) (s : List ℕ) (at n : ℕ) (l : Listed) → Ok (Some l) ≡ next_at f s at n → n < max_characters
 unfolding next_at tagged_at
-listed-room f s at n e next p = go (ltb n required_count) refl
+listed-room f s at n l p = go (ltb n required_count) refl
   where
-    room : (c : Bool) → ltb n max_characters ≡ c → (x : CharNext) → Listed e next ≡ cond c x (Stopped (refusal too_many_characters at)) → n < max_characters
+    room : (c : Bool) → ltb n max_characters ≡ c → (x : Next) → Ok (Some l) ≡ cond c x (Err (refusal too_many_characters at)) → n < max_characters
     room true h x q = ltb-true n max_characters h
     room false h x q = clash (cc)
 
-    tag : (t : TagAt) → Listed e next ≡ tagged_then t f s at n → n < max_characters
-    tag (TagLine c m) q = room (ltb n max_characters) refl (listed_at f s m.at c) q
-    tag NoTag q = clash (cc)
+    tag : (t : Option TagLine) → Ok (Some l) ≡ tagged_then t f s at n → n < max_characters
+    tag (Some m) q = room (ltb n max_characters) refl (listed_at f s m.next.at m.code) q
+    tag None q = clash (cc)
 
-    more : (b : Bool) (t : TagAt) → Listed e next ≡ cond b Complete (tagged_then t f s at n) → n < max_characters
+    more : (b : Bool) (t : Option TagLine) → Ok (Some l) ≡ cond b (Ok None) (tagged_then t f s at n) → n < max_characters
     more true t q = clash (cc)
     more false t q = tag t q
 
@@ -85,16 +82,19 @@ module _ (f : Format) (s : List ℕ) (from : ℕ) (codes₀ : List ℤ) (starts�
       }
 
   module _ (big : CharacterRoom max_characters codes₀ starts₀ widths₀) (codes : List ℤ) (starts widths : List ℕ) (at n : ℕ) (h : CharactersHeld f s from codes₀ starts₀ widths₀ codes starts widths at n) where
-    step_whole : (e : Entry) (next : Cursor) → Listed e next ≡ next_at f s at n → listing_at f s from ≡ before (h.done ++ (e ∷ [])) (rest f s (n + 1) next.at)
-    step_whole e next p =
+    step_whole : (x : Listed) → Ok (Some x) ≡ next_at f s at n → listing_at f s from ≡ before (h.done ++ (x.entry ∷ [])) (rest f s (n + 1) x.next.at)
+    step_whole x p =
+        let e = x.entry in
+        let next = x.next in
         h.whole ∙ ap (before h.done) (rest_step f s n at ∙ sym (ap (following f s n) p)) ∙
         ap (λ (l : List Entry). record { entries = l; ending = (rest f s (suc n) next.at).ending }) (sym (append_assoc h.done (e ∷ []) (rest f s (suc n) next.at).entries)) ∙
         ap (λ (j : ℕ). before (h.done ++ (e ∷ [])) (rest f s j next.at)) (sym (add-one n))
 
-    pub held_more : (e : Entry) (next : Cursor) → Listed e next ≡ next_at f s at n →
-        CharactersHeld f s from codes₀ starts₀ widths₀ (set codes n (code_of e)) (set starts n (start_of e)) (set widths n (width_of e)) next.at (n + 1)
-    held_more e next p =
-        let r = listed-room f s at n e next p in
+    pub held_more : (x : Listed) → Ok (Some x) ≡ next_at f s at n →
+        CharactersHeld f s from codes₀ starts₀ widths₀ (set codes n (code_of x.entry)) (set starts n (start_of x.entry)) (set widths n (width_of x.entry)) x.next.at (n + 1)
+    held_more x p =
+        let e = x.entry in
+        let r = listed-room f s at n x p in
         record {
           few = omega arith;
           long_codes = length-set codes n (code_of e) ∙ h.long_codes;
@@ -102,7 +102,7 @@ module _ (f : Format) (s : List ℕ) (from : ℕ) (codes₀ : List ℤ) (starts�
           long_widths = length-set widths n (width_of e) ∙ h.long_widths;
           done = h.done ++ (e ∷ []);
           count = omega (arith, h.count, length-append h.done (e ∷ []));
-          whole = step_whole e next p;
+          whole = step_whole x p;
           codes_are = map_more code_of codes n h.done e (omega (arith, h.long_codes, big.for_codes)) h.codes_are;
           starts_are = map_more start_of starts n h.done e (omega (arith, h.long_starts, big.for_starts)) h.starts_are;
           widths_are = map_more width_of widths n h.done e (omega (arith, h.long_widths, big.for_widths)) h.widths_are;
@@ -125,8 +125,8 @@ module _ (f : Format) (s : List ℕ) (from : ℕ) (codes₀ : List ℤ) (starts�
           };
         })
 
-    pub held_done : Complete ≡ next_at f s at n → Indexed (listing_at f s from) (Filled n) codes starts widths
+    pub held_done : Ok None ≡ next_at f s at n → Indexed (listing_at f s from) (Ok n) codes starts widths
     held_done p = stop finished (ap (following f s n) p ∙ sym (rest_step f s n at))
 
-    pub held_failed : (r : Refusal) → Stopped r ≡ next_at f s at n → Indexed (listing_at f s from) (Failed r) codes starts widths
+    pub held_failed : (r : Refusal) → Err r ≡ next_at f s at n → Indexed (listing_at f s from) (Err r) codes starts widths
     held_failed r q = stop (stopped r) (ap (following f s n) q ∙ sym (rest_step f s n at))

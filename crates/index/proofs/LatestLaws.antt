@@ -5,62 +5,38 @@ use mathlib.Core.Bool.{Bool, true, false, cond, true≢false}
 use mathlib.Core.List.{List, ◌++◌}
 use Prim.Native.Nat.{ℕ, ◌-◌, ◌+◌, ◌≤◌, ◌<◌}
 use native.Mathlib.Omega.{arith}
-use lib.Dec.{T, ltb, eqb}
-use lib.IntN.{ℤ, pos, negsuc, nat_abs}
-use lib.Signed.{lt_z, le_z, non_neg}
+use lib.Dec.{ltb, eqb}
+use lib.IntN.{ℤ, pos, negsuc}
 use lib.ListN.{length, get_or, take, set, replicate, length-set, length-replicate, get_or-replicate}
 use lib.Seq.{get_or-set_same, get_or-set_other}
-use mir.Syntax.{w64}
-use mir.Val.{Fits}
-use borrow.Author.Tests.{leb-true, leb-false, ltb-true, ltb-false, lt-ltb, le-ltb, eq-eqb, ne_eqb, eqb-true}
+use borrow.Author.Tests.{ltb-true, ltb-false, eq-eqb, ne_eqb, eqb-true}
+use Rattle.std.specs.Prelude.{Option, Some, None, SomeIff}
 use Rattle.ground.proofs.Tests.{clash}
 use Rattle.chars.specs.Codes.{same_number}
-use Rattle.index.specs.declared.Found.{Found}
-use Rattle.index.specs.declared.Found.TheVariants.{At, Nowhere}
-use Rattle.index.specs.declared.latest.Small.TheVariants.{Below, Beyond}
 use Rattle.index.specs.LookUp.{last_at}
 use Rattle.index.specs.Latest.{small_codes, small_of, place_plus_one, Latest, Noted}
 use Rattle.index.proofs.FindLaws.{last_next}
 
-pub beyond-low : (z : ℤ) → lt_z z (pos 0) ≡ true → Beyond ≡ small_of z
-unfolding small_of
-beyond-low (pos n) e = let l = ltb-true n 0 e in absurd (omega arith)
-beyond-low (negsuc n) e = refl
-
-pub beyond-high : (z : ℤ) → le_z (pos small_codes) z ≡ true → Beyond ≡ small_of z
-unfolding small_of
-beyond-high (pos n) e = sym (simp (le-ltb n small_codes (leb-true small_codes n e)))
-beyond-high (negsuc n) e = refl
-
-pub below-is : (z : ℤ) → lt_z z (pos 0) ≡ false → le_z (pos small_codes) z ≡ false → Below (nat_abs z) ≡ small_of z
-unfolding small_of
-below-is (pos n) e h = sym (simp (lt-ltb n small_codes (leb-false small_codes n h)))
-below-is (negsuc n) e h = absurd (true≢false e)
-
-pub below-fits : (z : ℤ) → lt_z z (pos 0) ≡ false → le_z (pos small_codes) z ≡ false → T (non_neg z) × Fits w64 (nat_abs z)
-below-fits (pos n) e h = (tt, record { fits = omega (arith, leb-false small_codes n h) })
-below-fits (negsuc n) e h = absurd (true≢false e)
-
 -- a small code, and one that is not
-pub small-below : (z : ℤ) (c : ℕ) → small_of z ≡ Below c → (z ≡ pos c) × (c < small_codes)
+pub small-below : (z : ℤ) (c : ℕ) → small_of z ≡ Some c → (z ≡ pos c) × (c < small_codes)
 unfolding small_of
 small-below (negsuc n) c e = clash (cc)
 small-below (pos n) c e = go (ltb n small_codes) refl e
   where
-    go : (b : Bool) → ltb n small_codes ≡ b → cond b (Below n) Beyond ≡ Below c → (pos n ≡ pos c) × (c < small_codes)
+    go : (b : Bool) → ltb n small_codes ≡ b → cond b (Some n) None ≡ Some c → (pos n ≡ pos c) × (c < small_codes)
     go true q e = let s : n ≡ c = cc in (ap pos s, subst (λ (j : ℕ). j < small_codes) s (ltb-true n small_codes q))
     go false q e = clash (cc)
 
-pub small-beyond : (z : ℤ) (c : ℕ) → small_of z ≡ Beyond → c < small_codes → same_number z (pos c) ≡ false
+pub small-beyond : (z : ℤ) (c : ℕ) → small_of z ≡ None → c < small_codes → same_number z (pos c) ≡ false
 unfolding small_of
 small-beyond (negsuc n) c e h = refl
 small-beyond (pos n) c e h = go (ltb n small_codes) refl e
   where
-    go : (b : Bool) → ltb n small_codes ≡ b → cond b (Below n) Beyond ≡ Beyond → eqb n c ≡ false
+    go : (b : Bool) → ltb n small_codes ≡ b → cond b (Some n) None ≡ None → eqb n c ≡ false
     go true q e = clash (cc)
     go false q e = let l = ltb-false n small_codes q in ne_eqb n c (λ (s : n ≡ c). omega arith)
 
-pub noted_here : (z : ℤ) (c place : ℕ) (l : List ℕ) → small_of z ≡ Below c → length l ≡ small_codes → Noted z place l (set l c place)
+pub noted_here : (z : ℤ) (c place : ℕ) (l : List ℕ) → small_of z ≡ Some c → length l ≡ small_codes → Noted z place l (set l c place)
 noted_here z c place l e h = record { size = length-set l c place; places = λ j k. at j (eqb c j) refl ∙ ap (λ (y : ℤ). cond (same_number y (pos j)) place (get_or l j 0)) (sym (small-below z c e).0) }
   where
     at : (j : ℕ) (b : Bool) → eqb c j ≡ b → get_or (set l c place) j 0 ≡ cond (eqb c j) place (get_or l j 0)
@@ -69,7 +45,7 @@ noted_here z c place l e h = record { size = length-set l c place; places = λ j
         ap (λ (i : ℕ). get_or (set l c place) i 0) (sym s) ∙ get_or-set_same l c place 0 (omega (arith, h, (small-below z c e).1)) ∙ sym (simp q)
     at j false q = get_or-set_other l c j place 0 (λ (s : j ≡ c). true≢false (sym (eq-eqb c j (sym s)) ∙ q)) ∙ sym (simp q)
 
-pub noted_none : (z : ℤ) (place : ℕ) (l : List ℕ) → small_of z ≡ Beyond → Noted z place l l
+pub noted_none : (z : ℤ) (place : ℕ) (l : List ℕ) → small_of z ≡ None → Noted z place l l
 noted_none z place l e = record { size = refl; places = λ j k. sym (ap (λ (b : Bool). cond b place (get_or l j 0)) (small-beyond z j e k)) }
 
 -- no code yet: a list of zeros
@@ -92,25 +68,20 @@ latest-more codes i old new h l n = record { size = n.size ∙ l.size; places = 
         n.places c k ∙ ap (λ (p : ℕ). cond b (i + 1) p) (l.places c k) ∙ placing b (last_at (pos c) (take i codes)) ∙
         sym (ap place_plus_one (last_next (pos c) codes i h))
       where
-        placing : (b : Bool) (r : Found) → cond b (i + 1) (place_plus_one r) ≡ place_plus_one (cond b (At i) r)
+        placing : (b : Bool) (r : Option ℕ) → cond b (i + 1) (place_plus_one r) ≡ place_plus_one (cond b (Some i) r)
         placing true r = omega arith
         placing false r = refl
 
 -- what the list tells of a small code
-module _ (codes : List ℤ) (latest : List ℕ) (z : ℤ) (c : ℕ) (l : Latest codes latest) (s : small_of z ≡ Below c) where
+module _ (codes : List ℤ) (latest : List ℕ) (z : ℤ) (c : ℕ) (l : Latest codes latest) (s : small_of z ≡ Some c) where
   told : get_or latest c 0 ≡ place_plus_one (last_at z codes)
   told = l.places c (small-below z c s).1 ∙ ap (λ (y : ℤ). place_plus_one (last_at y codes)) (sym (small-below z c s).0)
 
-  pub latest-at : 0 < get_or latest c 0 → At (get_or latest c 0 - 1) ≡ last_at z codes
-  latest-at p = go (last_at z codes) told
+  pub latest-told : (r : Option ℕ) → SomeIff r (1 ≤ get_or latest c 0) (get_or latest c 0 - 1) → r ≡ last_at z codes
+  latest-told r h = go r (last_at z codes) told h
     where
-      go : (r : Found) → get_or latest c 0 ≡ place_plus_one r → At (get_or latest c 0 - 1) ≡ r
-      go (At k) e = ap At (omega arith)
-      go Nowhere e = absurd (omega arith)
-
-  pub latest_nowhere : get_or latest c 0 ≤ 0 → Nowhere ≡ last_at z codes
-  latest_nowhere p = go (last_at z codes) told
-    where
-      go : (r : Found) → get_or latest c 0 ≡ place_plus_one r → Nowhere ≡ r
-      go (At k) e = absurd (omega arith)
-      go Nowhere e = refl
+      go : (r x : Option ℕ) → get_or latest c 0 ≡ place_plus_one x → SomeIff r (1 ≤ get_or latest c 0) (get_or latest c 0 - 1) → r ≡ x
+      go None None e h = refl
+      go None (Some k) e h = absurd (h (omega (arith, e)))
+      go (Some v) None e h = absurd (omega (arith, e, h.0))
+      go (Some v) (Some k) e h = ap Some (omega (arith, e, h.1))

@@ -1,14 +1,13 @@
 -- The characters of a font in three lists of numbers, in file order, as the code holds them.
 -- Assumes nothing.
-use Rattle.std.specs.Prelude.{◌≡◌, List, map, ℕ, ◌≤◌, ℤ, length, take}
+use Rattle.std.specs.Prelude.{◌≡◌, Result, Ok, Err, List, map, ℕ, ◌≤◌, ℤ, length, take}
 use Rattle.ground.specs.Limits.{max_characters}
+use Rattle.ground.specs.declared.refusals.Refusal.{Refusal}
 use Rattle.lines.specs.Lines.{lines_from}
 use Rattle.rows.specs.declared.Format.{Format}
 use Rattle.chars.specs.declared.Entry.{Entry}
 use Rattle.chars.specs.Codes.{required_codes}
 use Rattle.chars.specs.Chars.{Ending, finished, stopped, Listing, listing}
-use Rattle.index.specs.declared.Filling.{Filling}
-use Rattle.index.specs.declared.Filling.TheVariants.{Filled, Failed}
 
 -- What each list holds of an entry.
 abbrev pub code_of : Entry → ℤ
@@ -38,11 +37,11 @@ pub record Lists (es : List Entry) (codes : List ℤ) (starts widths : List ℕ)
   pub widths_are : take (length es) widths ≡ map width_of es
 
 -- "And the answer gives how many."
-abbrev pub ended_by : Ending → ℕ → Filling
-ended_by finished n = Filled n
-ended_by (stopped r) n = Failed r
+abbrev pub ended_by : Ending → ℕ → Result ℕ Refusal
+ended_by finished n = Ok n
+ended_by (stopped r) n = Err r
 
 -- The answer, and the lists.
-pub record Indexed (x : Listing) (r : Filling) (codes : List ℤ) (starts widths : List ℕ) : Type 0 where
+pub record Indexed (x : Listing) (r : Result ℕ Refusal) (codes : List ℤ) (starts widths : List ℕ) : Type 0 where
   pub answer : r ≡ ended_by x.ending (length x.entries)
   pub lists : Lists x.entries codes starts widths

@@ -1,26 +1,22 @@
 -- The last place of each small code in an index.
 -- Assumes nothing.
-use Rattle.std.specs.Prelude.{◌≡◌, cond, List, ℕ, suc, ◌<◌, ltb, ℤ, pos, negsuc, length, get_or}
+use Rattle.std.specs.Prelude.{◌≡◌, cond, Option, Some, None, List, ℕ, suc, ◌<◌, ltb, ℤ, pos, negsuc, length, get_or}
 use Rattle.chars.specs.Codes.{same_number}
-use Rattle.index.specs.declared.Found.{Found}
-use Rattle.index.specs.declared.Found.TheVariants.{At, Nowhere}
 use Rattle.index.specs.LookUp.{last_at}
-use Rattle.index.specs.declared.latest.Small.{Small}
-use Rattle.index.specs.declared.latest.Small.TheVariants.{Below, Beyond}
 
 -- The small codes are those of a text's bytes: 0 to 255.
 abbrev pub small_codes : ℕ
 small_codes = 256
 
 -- A small code, or another one.
-unfoldable pub small_of : ℤ → Small
-small_of (pos n) = cond (ltb n small_codes) (Below n) Beyond
-small_of (negsuc n) = Beyond
+unfoldable pub small_of : ℤ → Option ℕ
+small_of (pos n) = cond (ltb n small_codes) (Some n) None
+small_of (negsuc n) = None
 
 -- One more than a place; 0 for none.
-abbrev pub place_plus_one : Found → ℕ
-place_plus_one Nowhere = 0
-place_plus_one (At k) = suc k
+abbrev pub place_plus_one : Option ℕ → ℕ
+place_plus_one None = 0
+place_plus_one (Some k) = suc k
 
 -- The list holds, for each small code, one more than its last place.
 pub record Latest (codes : List ℤ) (latest : List ℕ) : Type 0 where

@@ -3,7 +3,7 @@ ghost use Rattle.std.specs.Prelude.{◌≡◌, length};
 ghost use Rattle.index.specs.LookUp.{last_at, look_up};
 ghost use Rattle.index.specs.Latest.{small_codes, small_of, Latest, Noted};
 
-use crate::{Found, find};
+use crate::find;
 use subchars::Code;
 
 // The small codes are those of a text's bytes: 0 to 255.
@@ -11,24 +11,16 @@ pub const SMALL_CODES: usize = 256;
 
 const FIRST_BEYOND: i32 = SMALL_CODES as i32;
 
-// A small code, or another one.
-#[derive(Clone, Copy)]
-pub enum Small {
-    Below(usize),
-    Beyond,
-}
-
-fn as_small(code: Code) -> Small
+// A small code as a place in the list; none for another code.
+#[tactic(auto, unfolding(crate::specs::Latest::small_of))]
+fn as_small(code: Code) -> Option<usize>
     ensures { result ≡ small_of code.0 }
 {
     let z = code.0;
-    if z < 0 {
-        return Small::Beyond;
+    if z < 0 || FIRST_BEYOND <= z {
+        return None;
     }
-    if FIRST_BEYOND <= z {
-        return Small::Beyond;
-    }
-    Small::Below(z as usize)
+    Some(z as usize)
 }
 
 // Notes a place for a code, if it is small.
@@ -36,11 +28,8 @@ fn note(latest: &mut [usize], code: Code, place: usize)
     requires { length latest.old ≡ small_codes }
     ensures { Noted code.0 place latest.old latest.new }
 {
-    match as_small(code) {
-        Small::Below(c) => {
-            latest[c] = place;
-        }
-        Small::Beyond => {}
+    if let Some(c) = as_small(code) {
+        latest[c] = place;
     }
 }
 
@@ -49,38 +38,28 @@ pub fn find_latest(codes: &[i32], latest: &mut [usize])
     requires { length latest.old ≡ small_codes }
     ensures { Latest codes.now latest.new }
 {
-    ground::zero_numbers(latest, 0);
-    let mut i: usize = 0;
-    while i < codes.len() {
-        note(latest, Code(codes[i]), i + 1);
-        i += 1;
+    ground::fill_from(latest, 0, 0);
+    for (i, &code) in codes.iter().enumerate() {
+        note(latest, Code(code), i + 1);
     }
 }
 
 // The last place of a code; the list tells that of a small one.
-fn find_known(codes: &[i32], latest: &[usize], code: Code) -> Found
+fn find_known(codes: &[i32], latest: &[usize], code: Code) -> Option<usize>
     requires { Latest codes.now latest.now }
     ensures { result ≡ last_at code.0 codes.now }
 {
     match as_small(code) {
-        Small::Below(c) => {
-            let place = latest[c];
-            if 0 < place {
-                return Found::At(place - 1);
-            }
-            Found::Nowhere
-        }
-        Small::Beyond => find(codes, code),
+        Some(c) => latest[c].checked_sub(1),
+        None => find(codes, code),
     }
 }
 
 // Look-up by the list.
-pub fn look_up(codes: &[i32], latest: &[usize], code: Code) -> Found
+#[tactic(auto, unfolding(crate::specs::LookUp::look_up))]
+pub fn look_up(codes: &[i32], latest: &[usize], code: Code) -> Option<usize>
     requires { Latest codes.now latest.now }
     ensures { result ≡ look_up code codes.now }
 {
-    let Found::At(k) = find_known(codes, latest, code) else {
-        return find_known(codes, latest, Code(0));
-    };
-    Found::At(k)
+    find_known(codes, latest, code).or_else(|| find_known(codes, latest, Code(0)))
 }

@@ -10,7 +10,8 @@ use lib.Dec.{ltb, leb}
 use lib.ListN.{length}
 use borrow.Author.Tests.{lt-ltb, le-ltb, ltb-true, ltb-false, leb-true, leb-false}
 use Rattle.ground.specs.Limits.{max_height, max_line_width, max_character_width, max_rules}
-use Rattle.ground.specs.Refusals.{area_too_small, line_too_wide, bad_shape, refusal}
+use Rattle.ground.specs.declared.refusals.Reason.{Reason}
+use Rattle.ground.specs.Refusals.{number_of, area_too_small, line_too_wide, bad_shape, refusal}
 use Rattle.ground.proofs.Tests.{and_none, and_left, and_right, never_both}
 use Rattle.subchars.specs.declared.Layout.{Layout}
 use Rattle.subchars.specs.declared.Layout.TheVariants.{FullWidth, Fitting, Smushing}
@@ -20,8 +21,8 @@ use Rattle.subchars.specs.Hardblank.{legal_hardblank}
 use Rattle.blocks.specs.Block.{Block, exact_block, left_of, right_of}
 use Rattle.overlap.specs.Join.{overlap, besides}
 use Rattle.join.specs.Shape.{good_kind, good_layout, good_block, good_shape}
-use Rattle.join.specs.declared.JoinAnswer.TheVariants.{Joined, Refused}
-use Rattle.join.specs.JoinCall.{JoinTold, join_tells, refusing, told_of, join_told}
+use Rattle.std.specs.Prelude.{Err}
+use Rattle.join.specs.JoinCall.{JoinTold, join_tells, joining, refusing, told_of, join_told}
 use Rattle.join.proofs.GoodShape.{block_good, block_bad}
 use Rattle.overlap.proofs.Demand.{overlap_narrower}
 
@@ -126,7 +127,7 @@ module _ (y : Mode) (h n : ℕ) (line : List ℕ) (m : ℕ) (character : List �
       bad_shape_lem : BadShape → JoinsTo (refusing bad_shape)
       too_wide : (BadShape → ⊥) → max_line_width < width → JoinsTo (refusing line_too_wide)
       too_small : (BadShape → ⊥) → width ≤ max_line_width → room < h * width → JoinsTo (refusing area_too_small)
-      joined : (BadShape → ⊥) → width ≤ max_line_width → h * width ≤ room → JoinsTo (join_tells (Joined (overlap y h left right) width))
+      joined : (BadShape → ⊥) → width ≤ max_line_width → h * width ≤ room → JoinsTo (join_tells (joining (overlap y h left right) width))
 
     shape_good : (BadShape → ⊥) → shape ≡ true
     shape_good f = go shape refl
@@ -175,9 +176,9 @@ module _ (y : Mode) (h n : ℕ) (line : List ℕ) (m : ℕ) (character : List �
 
     abbrev Told : JoinTold → Type 0
     Told t =
-        (t.number ≡ bad_shape → (t.place ≡ 0) × ShapeBad) ×
-        (t.number ≡ line_too_wide → (t.place ≡ 0) × Good × (max_line_width < width)) ×
-        (t.number ≡ area_too_small → (t.place ≡ 0) × Good × (width ≤ max_line_width) × (room < h * width)) ×
+        (t.number ≡ number_of bad_shape → (t.place ≡ 0) × ShapeBad) ×
+        (t.number ≡ number_of line_too_wide → (t.place ≡ 0) × Good × (max_line_width < width)) ×
+        (t.number ≡ number_of area_too_small → (t.place ≡ 0) × Good × (width ≤ max_line_width) × (room < h * width)) ×
         (t.refused ≡ false → Good × (width ≤ max_line_width) × (h * width ≤ room) × (t.overlap ≡ overlap y h left right) × (t.width ≡ width))
 
     good : (BadShape → ⊥) → Good
@@ -192,37 +193,37 @@ module _ (y : Mode) (h n : ℕ) (line : List ℕ) (m : ℕ) (character : List �
     tells : (t : JoinTold) → answer ≡ t → Told t
     tells t e = told t (subst JoinsTo e one_of)
 
-    at_place : (number p : ℕ) → p ≡ 0 → answer ≡ refusing number → answer ≡ join_tells (Refused (refusal number p))
-    at_place number p e a = subst (λ (q : ℕ). answer ≡ join_tells (Refused (refusal number q))) (sym e) a
+    at_place : (reason : Reason) (p : ℕ) → p ≡ 0 → answer ≡ refusing reason → answer ≡ join_tells (Err (refusal reason p))
+    at_place reason p e a = subst (λ (q : ℕ). answer ≡ join_tells (Err (refusal reason q))) (sym e) a
 
-    pub row_17 : (p : ℕ) → answer ≡ join_tells (Refused (refusal bad_shape p)) ↔ ((p ≡ 0) × ShapeBad)
+    pub row_17 : (p : ℕ) → answer ≡ join_tells (Err (refusal bad_shape p)) ↔ ((p ≡ 0) × ShapeBad)
     row_17 p = (λ e. (tells _ e).0 refl, λ w. at_place bad_shape p w.0 (gives _ (bad_shape_lem (shape_listed.1 w.1))))
 
-    pub row_16 : (p : ℕ) → answer ≡ join_tells (Refused (refusal line_too_wide p)) ↔ ((p ≡ 0) × Good × (max_line_width < width))
+    pub row_16 : (p : ℕ) → answer ≡ join_tells (Err (refusal line_too_wide p)) ↔ ((p ≡ 0) × Good × (max_line_width < width))
     row_16 p = (λ e. (tells _ e).1 refl, λ w. at_place line_too_wide p w.0 (gives _ (too_wide (λ b. w.1 (shape_listed.0 b)) w.2)))
 
-    pub row_9 : (p : ℕ) → answer ≡ join_tells (Refused (refusal area_too_small p)) ↔ ((p ≡ 0) × Good × (width ≤ max_line_width) × (room < h * width))
+    pub row_9 : (p : ℕ) → answer ≡ join_tells (Err (refusal area_too_small p)) ↔ ((p ≡ 0) × Good × (width ≤ max_line_width) × (room < h * width))
     row_9 p = (λ e. (tells _ e).2 refl, λ w. at_place area_too_small p w.0 (gives _ (too_small (λ b. w.1 (shape_listed.0 b)) w.2 w.3)))
 
-    pub row-joined : (o w : ℕ) → answer ≡ join_tells (Joined o w) ↔ (Good × (width ≤ max_line_width) × (h * width ≤ room) × (o ≡ overlap y h left right) × (w ≡ width))
-    row-joined o w = (λ e. (tells _ e).3 refl, λ x. gives _ (joined (λ b. x.0 (shape_listed.0 b)) x.1 x.2) ∙ ap₂ (λ (i j : ℕ). join_tells (Joined i j)) (sym x.3) (sym x.4))
+    pub row-joined : (o w : ℕ) → answer ≡ join_tells (joining o w) ↔ (Good × (width ≤ max_line_width) × (h * width ≤ room) × (o ≡ overlap y h left right) × (w ≡ width))
+    row-joined o w = (λ e. (tells _ e).3 refl, λ x. gives _ (joined (λ b. x.0 (shape_listed.0 b)) x.1 x.2) ∙ ap₂ (λ (i j : ℕ). join_tells (joining i j)) (sym x.3) (sym x.4))
 
     -- What a refusal tells: one of the three numbers, place 0.
-    pub refused-tells : answer.refused ≡ true → (area_too_small ≤ answer.number) × (answer.number ≤ bad_shape) × (answer.place ≡ 0)
+    pub refused-tells : answer.refused ≡ true → (number_of area_too_small ≤ answer.number) × (answer.number ≤ number_of bad_shape) × (answer.place ≡ 0)
     refused-tells e = go answer one_of e
       where
-        go : (t : JoinTold) → JoinsTo t → t.refused ≡ true → (area_too_small ≤ t.number) × (t.number ≤ bad_shape) × (t.place ≡ 0)
+        go : (t : JoinTold) → JoinsTo t → t.refused ≡ true → (number_of area_too_small ≤ t.number) × (t.number ≤ number_of bad_shape) × (t.place ≡ 0)
         go _ (bad_shape_lem b) e = (omega arith, omega arith, refl)
         go _ (too_wide f u) e = (omega arith, omega arith, refl)
         go _ (too_small f u v) e = (omega arith, omega arith, refl)
         go _ (joined f u v) e = absurd (true≢false (sym e))
 
     -- The result is at most 1,000 columns wide, and the overlap is not wider.
-    pub joined-within : (o w : ℕ) → join_tells (Joined o w) ≡ answer → (o ≤ w) × (w ≤ max_line_width)
+    pub joined-within : (o w : ℕ) → join_tells (joining o w) ≡ answer → (o ≤ w) × (w ≤ max_line_width)
     unfolding besides
     joined-within o w e = go answer one_of e
       where
-        go : (t : JoinTold) → JoinsTo t → join_tells (Joined o w) ≡ t → (o ≤ w) × (w ≤ max_line_width)
+        go : (t : JoinTold) → JoinsTo t → join_tells (joining o w) ≡ t → (o ≤ w) × (w ≤ max_line_width)
         go _ (bad_shape_lem b) e = absurd (true≢false (sym (ap (λ (t : JoinTold). t.refused) e)))
         go _ (too_wide f u) e = absurd (true≢false (sym (ap (λ (t : JoinTold). t.refused) e)))
         go _ (too_small f u v) e = absurd (true≢false (sym (ap (λ (t : JoinTold). t.refused) e)))

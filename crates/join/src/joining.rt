@@ -4,60 +4,55 @@ ghost use Rattle.blocks.specs.Block.{exact_block};
 ghost use Rattle.join.specs.Shape.{Sized};
 ghost use Rattle.join.specs.JoinCall.{Refuses, BlocksGive, JoinGives};
 
-use crate::{JoinAnswer, shape};
-use ground::refusals::Refusal;
-use ground::{limits, refusals};
+use crate::{Joined, Side, shape};
+use ground::limits;
+use ground::refusals::{Reason, Refusal};
 use lanes::View;
 use subchars::{Direction, Mode};
 
 // A refusal, with zeros all through the area.
-fn refuse(number: usize, out: &mut [u8]) -> JoinAnswer
-    ensures { Refuses number (length out.old) result out.new }
+fn refuse(reason: Reason, out: &mut [u8]) -> Result<Joined, Refusal>
+    ensures { Refuses reason (length out.old) result out.new }
 {
     ground::zero_from(out, 0);
-    JoinAnswer::Refused(Refusal { number, place: 0 })
+    Err(Refusal::of(reason))
 }
 
-// Joins two blocks of h rows, the left one n wide and the right one m.
+// Joins two blocks of h rows.
 fn join_blocks(
     mode: Mode,
     h: usize,
-    left: &[u8],
-    n: usize,
-    right: &[u8],
-    m: usize,
+    left: Side,
+    right: Side,
     out: &mut [u8],
-) -> JoinAnswer
-    requires sized { Sized h n left.now }
-    requires sized_2 { Sized h m right.now }
-    ensures { BlocksGive mode h (exact_block n left.now) (exact_block m right.now) (length out.old) result out.new }
+) -> Result<Joined, Refusal>
+    requires sized { Sized h left.width left.bytes.now }
+    requires sized_2 { Sized h right.width right.bytes.now }
+    ensures { BlocksGive mode h (exact_block left.entry.width left.entry.bytes.now) (exact_block right.entry.width right.entry.bytes.now) (length out.old) result out.new }
 {
-    let a_starts = blocks::row_starts(n, h);
-    let b_starts = blocks::row_starts(m, h);
+    let a_starts = blocks::row_starts(left.width, h);
+    let b_starts = blocks::row_starts(right.width, h);
     let a = View {
         base: 0,
         along: 1,
-        len: n,
+        len: left.width,
     };
     let b = View {
         base: 0,
         along: 1,
-        len: m,
+        len: right.width,
     };
-    let o = overlap::overlap_of(mode, left, &a_starts, a, right, &b_starts, b, h);
-    let w = n + m - o;
-    if limits::MAX_LINE_WIDTH < w {
-        return refuse(refusals::LINE_TOO_WIDE, out);
+    let overlap = overlap::overlap_of(mode, left.bytes, &a_starts, a, right.bytes, &b_starts, b, h);
+    let width = left.width + right.width - overlap;
+    if limits::MAX_LINE_WIDTH < width {
+        return refuse(Reason::LineTooWide, out);
     }
-    if out.len() < h * w {
-        return refuse(refusals::AREA_TOO_SMALL, out);
+    if out.len() < h * width {
+        return refuse(Reason::AreaTooSmall, out);
     }
-    crate::write_rows(out, mode, left, n, right, m, o, h);
-    ground::zero_from(out, h * w);
-    JoinAnswer::Joined {
-        overlap: o,
-        width: w,
-    }
+    crate::write_rows(out, mode, left, right, overlap, h);
+    ground::zero_from(out, h * width);
+    Ok(Joined { overlap, width })
 }
 
 // Joins a FIGcharacter to a line of h rows, on the side that the direction says.
@@ -69,7 +64,7 @@ pub fn join_to_line(
     character: &[u8],
     character_width: usize,
     out: &mut [u8],
-) -> JoinAnswer
+) -> Result<Joined, Refusal>
     ensures { JoinGives mode h line_width line.now character_width character.now (length out.old) result out.new }
 {
     if !shape::good_shape(
@@ -80,15 +75,18 @@ pub fn join_to_line(
         character_width,
         character.len(),
     ) {
-        return refuse(refusals::BAD_SHAPE, out);
+        return refuse(Reason::BadShape, out);
     }
-    let direction = mode.direction;
-    match direction {
-        Direction::LeftToRight => {
-            join_blocks(mode, h, line, line_width, character, character_width, out)
-        }
-        Direction::RightToLeft => {
-            join_blocks(mode, h, character, character_width, line, line_width, out)
-        }
+    let line = Side {
+        bytes: line,
+        width: line_width,
+    };
+    let character = Side {
+        bytes: character,
+        width: character_width,
+    };
+    match mode.direction {
+        Direction::LeftToRight => join_blocks(mode, h, line, character, out),
+        Direction::RightToLeft => join_blocks(mode, h, character, line, out),
     }
 }

@@ -5,7 +5,7 @@ use mathlib.Core.Path.{◌≡◌, refl, sym, ◌∙◌, ap, subst}
 use mathlib.Core.Bool.{Bool, true, false, cond, not, ◌&&◌, ◌||◌}
 use mathlib.Core.List.{List, [], ◌∷◌, ◌++◌}
 use mathlib.Core.Logic.{◌⊎◌, inl, inr}
-use mathlib.Core.Option.{Option, none, some}
+use Rattle.std.specs.Prelude.{Option, Some, None}
 use Prim.Native.Nat.{ℕ, suc, ◌+◌, ◌-◌, ◌<◌}
 use native.Mathlib.Omega.{arith}
 use lib.Dec.{eqb}
@@ -63,8 +63,8 @@ some_if false x = refl
 
 some_or : (a b : Option ℕ) → is_some (or_else a b) ≡ (is_some a || is_some b)
 unfolding is_some or_else
-some_or (some x) b = refl
-some_or none b = refl
+some_or (Some x) b = refl
+some_or None b = refl
 
 some_either : (s t : Bool) (x y : ℕ) → is_some (or_else (joined_if s x) (joined_if t y)) ≡ (s || t)
 some_either s t x y = some_or (joined_if s x) (joined_if t y) ∙ rw (some_if s x, some_if t y)
@@ -109,12 +109,12 @@ unfolding rules_joining is_some joined_if
 sum_tested h l r = go (eqb l h) (eqb r h)
   where
     go : (a b : Bool)
-        → worth (is_some (cond (a || b) none (equal_character l r))) 1
-        + (worth (is_some (cond (a || b) none (underscore l r))) 2
-        + (worth (is_some (cond (a || b) none (hierarchy l r))) 4
-        + (worth (is_some (cond (a || b) none (opposite_pair l r))) 8
-        + (worth (is_some (cond (a || b) none (big_x l r))) 16
-        + (worth (is_some (cond (a && b) (some h) none)) 32 + 0)))))
+        → worth (is_some (cond (a || b) None (equal_character l r))) 1
+        + (worth (is_some (cond (a || b) None (underscore l r))) 2
+        + (worth (is_some (cond (a || b) None (hierarchy l r))) 4
+        + (worth (is_some (cond (a || b) None (opposite_pair l r))) 8
+        + (worth (is_some (cond (a || b) None (big_x l r))) 16
+        + (worth (is_some (cond (a && b) (Some h) None)) 32 + 0)))))
         ≡ cond a (worth b 32) (cond b 0 (tested l r))
     go true true = refl
     go true false = refl

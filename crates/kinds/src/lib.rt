@@ -34,10 +34,11 @@ const PAIR_RULES: [[u8; 16]; 16] = [
 const OTHER: usize = 14;
 
 // The kind of a sub-character, and so its column.
+#[tactic(auto, unfolding(crate::specs::Kinds::kind_of))]
 fn kind_of(hardblank: SubCharacter, x: SubCharacter) -> usize
     ensures { result ≡ kind_of hardblank.0 x.0 }
 {
-    if x.0 == hardblank.0 {
+    if x == hardblank {
         return 1;
     }
     let b = x.0;
@@ -85,12 +86,13 @@ fn entry_in(row: [u8; 16], kind: usize) -> u8
 }
 
 // The entry of a column in the row of a left sub-character.
+#[tactic(auto, unfolding(crate::specs::Kinds::kind_of))]
 fn entry_of(hardblank: SubCharacter, left: SubCharacter, kind: usize) -> u8
     requires { kind < 16 }
     ensures { result ≡ rule_entry (kind_of hardblank.0 left.0) kind }
 {
     let table = PAIR_RULES;
-    if left.0 == hardblank.0 {
+    if left == hardblank {
         return entry_in(table[1], kind);
     }
     let b = left.0;
@@ -118,7 +120,7 @@ pub fn pair_rules(hardblank: SubCharacter, left: SubCharacter, right: SubCharact
     ensures { result ≡ rules_joining hardblank.0 left.0 right.0 }
 {
     let kind = kind_of(hardblank, right);
-    if ground::both(kind == OTHER, left.0 != right.0) {
+    if kind == OTHER && left != right {
         return 0;
     }
     entry_of(hardblank, left, kind)

@@ -10,6 +10,7 @@ use ground::limits;
 use subchars::{Direction, Mode, SubCharacter};
 
 // What a sub-character of the line becomes where one of a FIGcharacter lies on it.
+#[tactic(auto, unfolding(crate::specs::Laying::met, crate::specs::Laying::can_meet))]
 fn meet(mode: Mode, l: SubCharacter, x: SubCharacter) -> SubCharacter
     requires { can_meet mode l.0 x.0 ≡ true }
     ensures { result.0 ≡ met mode l.0 x.0 }

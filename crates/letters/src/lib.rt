@@ -11,32 +11,26 @@ ghost use Rattle.heads.specs.Pack.{says, meaning};
 ghost use Rattle.letters.specs.Held.{held_at, LetterNoted, Held, LettersHeld};
 
 use index::latest;
-use records::{Head, Place, Skim, bits_of, find_from, head_length, skim_part};
+use records::{Head, Place, Record, bits_of, find_from, head_length, skim_part};
 use subchars::Code;
 
 // The place that two entries of the lists hold.
-fn held_at(start: usize, width: usize) -> Place
+fn held_at(start: usize, width: usize) -> Option<Place>
     ensures { result ≡ held_at start width }
 {
     if start == 0 {
-        return Place::Nowhere;
+        return None;
     }
-    Place::At { at: start, width }
+    Some(Place { at: start, width })
 }
 
 // Notes where a live record of a small code starts, and its width, unless the code was noted before.
-fn note(
-    starts: &mut [usize],
-    widths: &mut [usize],
-    live: bool,
-    code: usize,
-    at: usize,
-    width: usize,
-)
+fn note(starts: &mut [usize], widths: &mut [usize], at: usize, found: Record)
     requires { (small_codes ≤ length starts.old) × (small_codes ≤ length widths.old) }
-    ensures { LetterNoted live code at width starts.old widths.old starts.new widths.new }
+    ensures { LetterNoted found.live found.code at found.width starts.old widths.old starts.new widths.new }
 {
-    if !live {
+    let code = found.code;
+    if !found.live {
         return;
     }
     if latest::SMALL_CODES <= code {
@@ -44,7 +38,7 @@ fn note(
     }
     if starts[code] == 0 {
         starts[code] = at;
-        widths[code] = width;
+        widths[code] = found.width;
     }
 }
 
@@ -54,28 +48,22 @@ pub fn hold_letters(head: Head, pack: &[u8], starts: &mut [usize], widths: &mut 
     requires small_codes_in_bounds { (small_codes ≤ length starts.old) × (small_codes ≤ length widths.old) }
     ensures { (records : List (List ℕ)) → meaning pack.now ≡ says head records → Held head records starts.new widths.new }
 {
-    ground::zero_numbers(starts, 0);
+    ground::fill_from(starts, 0, 0);
     let mut at = head_length(head.version);
-    loop {
-        match skim_part(head, &pack[at..]) {
-            Skim::Record {
-                live,
-                code,
-                width,
-                size,
-            } => {
-                note(starts, widths, live, code, at, width);
-                at += size;
-            }
-            Skim::End => {
-                return;
-            }
-        }
+    while let Some(found) = skim_part(head, &pack[at..]) {
+        note(starts, widths, at, found);
+        at += found.size;
     }
 }
 
 // Where the record of a code's letter starts, and its width.
-pub fn find_letter(head: Head, pack: &[u8], starts: &[usize], widths: &[usize], code: Code) -> Place
+pub fn find_letter(
+    head: Head,
+    pack: &[u8],
+    starts: &[usize],
+    widths: &[usize],
+    code: Code,
+) -> Option<Place>
     requires { LettersHeld head pack.now starts.now widths.now }
     ensures { (records : List (List ℕ)) → meaning pack.now ≡ says head records → result ≡ place_in head (bits_of code.0) (head_length head.version) records }
 {
@@ -91,11 +79,7 @@ pub fn letter_rows(rows: &mut [usize], place: usize, width: usize, height: usize
     requires { (height ≤ length rows.old) × (height ≤ max_height) × (place + height * width ≤ max_pack_length) }
     ensures { (r : ℕ) → r < height → get_or rows.new r 0 ≡ place + r * width }
 {
-    let mut r: usize = 0;
-    let mut at = place;
-    while r < height {
-        rows[r] = at;
-        at += width;
-        r += 1;
+    for r in 0..height {
+        rows[r] = place + r * width;
     }
 }

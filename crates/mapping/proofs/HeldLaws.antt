@@ -2,6 +2,7 @@
 -- Assumes nothing.
 use mathlib.Core.Path.{◌≡◌, sym, ◌∙◌, subst}
 use mathlib.Core.List.{List}
+use Rattle.std.specs.Prelude.{Result, Ok, Err}
 use Prim.Native.Nat.{ℕ}
 use native.Mathlib.Nat.{zero-add}
 use lib.IntN.{ℤ}
@@ -9,8 +10,8 @@ use lib.ListN.{length}
 use Rattle.subchars.specs.declared.Code.{Code}
 use Rattle.commands.proofs.SoundLaws.{Bytes}
 use Rattle.flc.specs.declared.Command.{Command}
-use Rattle.flc.specs.declared.ControlAnswer.{ControlAnswer}
-use Rattle.flc.specs.declared.ControlAnswer.TheVariants.{Read, Refused}
+use Rattle.ground.specs.declared.refusals.Refusal.{Refusal}
+use Rattle.flc.specs.declared.ControlRead.{ControlRead}
 use Rattle.flc.specs.Control.{ControlReading, control}
 use Rattle.flc.specs.Lists.{commands_of, command_lists}
 use Rattle.mapping.specs.Mapping.{map_stages}
@@ -20,20 +21,20 @@ use Rattle.mapping.proofs.MappingLaws.{pass_stages}
 use Rattle.mapping.specs.Passing.{ControlHeld, ControlHeldBy, Rising, Usable, pass_all, passing}
 use Rattle.flc.specs.Filling.{HoldsCommands, CommandsListed}
 
-pub told : (s : List ℕ) → Bytes s → (r : ControlAnswer) (ss : List ℕ) (fs ls ns : List ℤ) (ss₀ : List ℕ) (fs₀ ls₀ ns₀ : List ℤ) → CommandsListed (control s) r (command_lists ss₀ fs₀ ls₀ ns₀) (command_lists ss fs ls ns) → ControlHeldBy s r ss fs ls ns
-told s b (Read n k) ss fs ls ns ss₀ fs₀ ls₀ ns₀ l =
-    let x = read_as (control s) n k l.answer in
+pub told : (s : List ℕ) → Bytes s → (r : Result ControlRead Refusal) (ss : List ℕ) (fs ls ns : List ℤ) (ss₀ : List ℕ) (fs₀ ls₀ ns₀ : List ℤ) → CommandsListed (control s) r (command_lists ss₀ fs₀ ls₀ ns₀) (command_lists ss fs ls ns) → ControlHeldBy s r ss fs ls ns
+told s b (Ok r) ss fs ls ns ss₀ fs₀ ls₀ ns₀ l =
+    let x = read_as (control s) r l.answer in
     record {
       commands = x.commands;
-      count = k;
+      count = r.stages;
       said = x.is;
       holds =
           subst (λ (j : ℕ). HoldsCommands x.commands j ss fs ls ns) (sym x.count)
-          (subst (λ (y : ControlReading). HoldsCommands (commands_of y) (length (commands_of y)) ss fs ls ns) x.is (listed-holds (control s) (Read n k) (command_lists ss₀ fs₀ ls₀ ns₀) (command_lists ss fs ls ns) l));
-      sound = control-sound s b x.commands k (sym x.is);
-      rising = control-rising s b x.commands k (sym x.is);
+          (subst (λ (y : ControlReading). HoldsCommands (commands_of y) (length (commands_of y)) ss fs ls ns) x.is (listed-holds (control s) (Ok r) (command_lists ss₀ fs₀ ls₀ ns₀) (command_lists ss fs ls ns) l));
+      sound = control-sound s b x.commands r.stages (sym x.is);
+      rising = control-rising s b x.commands r.stages (sym x.is);
     }
-told s b (Refused q) ss fs ls ns ss₀ fs₀ ls₀ ns₀ l = refused_as (control s) q l.answer
+told s b (Err q) ss fs ls ns ss₀ fs₀ ls₀ ns₀ l = refused_as (control s) q l.answer
 
 module _ (s : List ℕ) (n : ℕ) (ss : List ℕ) (fs ls ns : List ℤ) (held : ControlHeld s n ss fs ls ns) where
   pub usable : Usable n ss fs ls ns

@@ -3,12 +3,14 @@
 use mathlib.Core.Path.{◌≡◌, refl, sym, ap, subst}
 use mathlib.Core.Bool.{Bool, true, false, cond, ◌&&◌}
 use mathlib.Core.List.{List, [], ◌∷◌}
+use Rattle.std.specs.Prelude.{Result, Ok, Err}
 use Prim.Native.Nat.{ℕ, zero, suc, ◌+◌, ◌≤◌, ◌<◌}
 use native.Mathlib.Omega.{arith}
 use lib.Dec.{ltb}
 use lib.ListN.{length}
 use lib.Signed.{le_z}
 use Rattle.ground.specs.Limits.{max_control_file, max_stages}
+use Rattle.ground.specs.declared.refusals.Refusal.{Refusal}
 use Rattle.ground.specs.Refusals.{refusal, control_file_too_long}
 use Rattle.ground.specs.Runs.{begins}
 use Rattle.ground.proofs.Tests.{and_left, and_right, clash}
@@ -18,7 +20,7 @@ use Rattle.commands.specs.Commands.{line_kind}
 use Rattle.commands.proofs.SoundLaws.{Bytes, bytes_rest, line-within}
 use Rattle.flc.specs.declared.Command.{Command}
 use Rattle.flc.specs.declared.LineAct.{LineAct}
-use Rattle.flc.specs.declared.LineAct.TheVariants.{Lists, Passes, Refuses}
+use Rattle.flc.specs.declared.LineAct.TheVariants.{Lists, Passes}
 use Rattle.flc.specs.Control.{act_of, ControlReading, reads, refuses, with_command, then_lines, stage_after, count_after, commands_on, control_signature, behind_signature, control}
 use Rattle.flc.proofs.ActLaws.{Mapped, listed-is, passed_is}
 use Rattle.mapping.specs.Mapping.{fits, moved}
@@ -95,15 +97,15 @@ lines_good stage n [] h b cs k p =
     subst (λ (x : List Command). Good stage x k) (sym e) (record { sound = none; rising = at-end (omega arith) })
 lines_good stage n (l ∷ ls) h (a_line b c) cs k p = go (act_of (line_kind l.text) stage n l.start) refl p (λ s m q. lines_good s m ls q c)
   where
-    go : (a : LineAct) → act_of (line_kind l.text) stage n l.start ≡ a → reads cs k ≡ then_lines a (commands_on (stage_after a stage) (count_after a n) ls) → ((s m : ℕ) → s < max_stages → (ds : List Command) (j : ℕ) → reads ds j ≡ commands_on s m ls → Good s ds j) → Good stage cs k
-    go (Lists d) e q old =
+    go : (a : Result LineAct Refusal) → act_of (line_kind l.text) stage n l.start ≡ a → reads cs k ≡ then_lines a (commands_on (stage_after a stage) (count_after a n) ls) → ((s m : ℕ) → s < max_stages → (ds : List Command) (j : ℕ) → reads ds j ≡ commands_on s m ls → Good s ds j) → Good stage cs k
+    go (Ok (Lists d)) e q old =
         let m = listed-is stage n l.start (line_kind l.text) d (sym e) in
         add_command stage d (sound_of l.text b stage h n d m) (ap (λ (x : Command). x.stage) m.command_is) (commands_on stage (n + 1) ls) (old stage (n + 1) h) cs k q
-    go (Passes j) e q old =
+    go (Ok (Passes j)) e q old =
         let m = passed_is stage n l.start (line_kind l.text) j (sym e) in
         let g = old j n (m.1 h) cs k q in
         record { sound = g.sound; rising = rising_lower cs stage m.0 g.rising }
-    go (Refuses r) e q old = clash (cc)
+    go (Err r) e q old = clash (cc)
 
 -- Of a control file.
 module _ (s : List ℕ) (b : Bytes s) (cs : List Command) (k : ℕ) (p : reads cs k ≡ control s) where

@@ -1,14 +1,14 @@
 -- The mapping in one look at each command, and lists of commands that were read once for many codes.
 -- Assumes nothing.
-use Rattle.std.specs.Prelude.{◌≡◌, ℕ, ◌+◌, ◌<◌, ◌≤◌, true, cond, ◌&&◌, List, [], ◌∷◌, leb, ℤ}
+use Rattle.std.specs.Prelude.{◌≡◌, ℕ, ◌+◌, ◌<◌, ◌≤◌, true, cond, ◌&&◌, List, [], ◌∷◌, leb, ℤ, Result, Ok, Err}
 use Rattle.std.specs.Int.{w32}
 use Rattle.std.proofs.Common.{SFits}
 use Rattle.ground.specs.Limits.{max_stages}
 use Rattle.subchars.specs.declared.Code.{Code}
 use Rattle.flc.specs.declared.Command.{Command}
 use Rattle.mapping.specs.declared.Passing.{Passing}
-use Rattle.flc.specs.declared.ControlAnswer.{ControlAnswer}
-use Rattle.flc.specs.declared.ControlAnswer.TheVariants.{Read, Refused}
+use Rattle.ground.specs.declared.refusals.Refusal.{Refusal}
+use Rattle.flc.specs.declared.ControlRead.{ControlRead}
 use Rattle.flc.specs.Control.{reads, refuses, control}
 use Rattle.flc.specs.Filling.{HoldsCommands}
 use Rattle.mapping.specs.Mapping.{fits, new_code}
@@ -54,6 +54,6 @@ pub record ControlHeld (s : List ℕ) (n : ℕ) (stages : List ℕ) (firsts last
   pub rising : Rising count 0 commands
 
 -- What reading it answered, and the lists.
-abbrev pub ControlHeldBy : List ℕ → ControlAnswer → List ℕ → List ℤ → List ℤ → List ℤ → Type 0
-ControlHeldBy s (Read n k) stages firsts lasts news = ControlHeld s n stages firsts lasts news
-ControlHeldBy s (Refused r) stages firsts lasts news = control s ≡ refuses r
+abbrev pub ControlHeldBy : List ℕ → Result ControlRead Refusal → List ℕ → List ℤ → List ℤ → List ℤ → Type 0
+ControlHeldBy s (Ok r) stages firsts lasts news = ControlHeld s r.commands stages firsts lasts news
+ControlHeldBy s (Err r) stages firsts lasts news = control s ≡ refuses r

@@ -10,7 +10,6 @@ ghost use Rattle.mapping.specs.Passing.{SoundCommand, Usable, pass_all, pass_com
 ghost use Rattle.flc.specs.Filling.{HoldsCommands};
 
 use flc::Command;
-use ground::both;
 use subchars::Code;
 
 // A code on its way through the commands; the stages from `lowest` on may still act on it.
@@ -23,7 +22,7 @@ pub struct Passing {
 fn in_range(first: Code, last: Code, code: Code) -> bool
     ensures { result ≡ in_range first last code }
 {
-    both(first.0 <= code.0, code.0 <= last.0)
+    first.0 <= code.0 && code.0 <= last.0
 }
 
 // The code as far from the first new code as the old one from the first.

@@ -13,6 +13,7 @@ use lanes::View;
 use subchars::{Layout, Mode, SubCharacter};
 
 // Whether a facing pair joins. A blank is tested before the pair decision is called: most pairs have one.
+#[tactic(auto, unfolding(pairs::specs::Pair::joins, pairs::specs::Pair::joint))]
 fn pair_joins(mode: Mode, left: SubCharacter, right: SubCharacter) -> bool
     ensures { result ≡ joins mode left.0 right.0 }
 {
@@ -26,6 +27,7 @@ fn pair_joins(mode: Mode, left: SubCharacter, right: SubCharacter) -> bool
 }
 
 // What a facing pair becomes; blanks first, as above.
+#[tactic(auto, unfolding(pairs::specs::Pair::joint))]
 pub fn pair_byte(mode: Mode, left: SubCharacter, right: SubCharacter) -> SubCharacter
     ensures { result.0 ≡ pair_byte mode left.0 right.0 }
 {
@@ -124,7 +126,7 @@ fn smushing_overlap(
 {
     let fit = lanes::fit_of(left, a_starts, a, right, b_starts, b, h);
     let f = fit.overlap;
-    let most = ground::smaller(a.len, b.len);
+    let most = a.len.min(b.len);
     if f < most {
         let t = rest_joins(
             mode,
@@ -146,6 +148,7 @@ fn smushing_overlap(
 }
 
 // The overlap of two blocks of h rows.
+#[tactic(auto, unfolding(crate::specs::Join::overlap))]
 pub fn overlap_of(
     mode: Mode,
     left: &[u8],

@@ -14,7 +14,8 @@ use Rattle.ground.specs.Runs.{all, joined}
 use Rattle.ground.proofs.Tests.{and_left, and_right}
 use Rattle.records.specs.declared.Head.{Head}
 use Rattle.records.specs.declared.Place.{Place}
-use Rattle.records.specs.declared.Place.TheVariants.{At, Nowhere}
+use Rattle.std.specs.Prelude.{Option, Some, None, Result, Err}
+use Rattle.ground.specs.declared.refusals.Refusal.{Refusal}
 use Rattle.records.specs.Versions.{head_length, record_head_length, max_width}
 use Rattle.records.proofs.VersionLaws.{head_length_low}
 use Rattle.rows.specs.Rows.{legal_byte}
@@ -29,7 +30,6 @@ use Rattle.edits.proofs.ChangeLaws.{wholes_removed, wholes_placed, wholes_kept, 
 use Rattle.edits.proofs.PlaceLaws.{read_at, removed-long, kept-long, placed-long, kept_none_free}
 use Rattle.ground.specs.Refusals.{refusal, bad_shape}
 use Rattle.pack.specs.declared.Located.{Located}
-use Rattle.pack.specs.declared.Located.TheVariants as located
 use Rattle.heads.specs.Pack.{is_head, head_of, Pack, says, meaning, remade}
 use Rattle.pack.specs.Calls.{located_at, located_in, found_at, find_told, rows_part, rows_told, letter_of, letter_found, good_letter, has_room}
 use Rattle.heads.proofs.FindLaws.{letter-there}
@@ -152,22 +152,22 @@ pub find_letter : (s : List ℕ) (f : Head) (rs : List (List ℕ)) → meaning s
 unfolding letter_found find_told rows_told located_in
 find_letter s f rs m code n =
     let h = head_length f.version in
-    ap (λ (p : Pack). told (located_in p code)) m ∙ ap (λ (b : Bool). told (cond b (located.Refused (refusal bad_shape 0)) (located_at f (place_in f code h rs)))) (ne_eqb code minus_one n) ∙
+    ap (λ (p : Pack). told (located_in p code)) m ∙ ap (λ (b : Bool). told (cond b (Err (refusal bad_shape 0)) (located_at f (place_in f code h rs)))) (ne_eqb code minus_one n) ∙
     same (place_in f code h rs) ∙ letter-there s f rs m code
   where
-    told : Located → Letter
+    told : Result Located Refusal → Letter
     told x = letter_of (rows_part s x) (found_at x)
 
-    same : (x : Place) → letter_of (rows_part s (located_at f x)) (found_at (located_at f x)) ≡ read_at f s x
-    same (At p w) = refl
-    same Nowhere = refl
+    same : (x : Option Place) → letter_of (rows_part s (located_at f x)) (found_at (located_at f x)) ≡ read_at f s x
+    same (Some p) = refl
+    same None = refl
 
 -- Code -1 has no letter.
 find_none : (s : List ℕ) (f : Head) (rs : List (List ℕ)) → meaning s ≡ says f rs → (code : ℕ) → code ≡ minus_one → letter_found s code ≡ no_letter
 unfolding letter_found find_told rows_told located_in
 find_none s f rs m code e =
     ap (λ (p : Pack). letter_of (rows_part s (located_in p code)) (found_at (located_in p code))) m ∙
-    ap (λ (b : Bool). letter_of (rows_part s (cond b (located.Refused (refusal bad_shape 0)) (located_at f (place_in f code (head_length f.version) rs)))) (found_at (cond b (located.Refused (refusal bad_shape 0)) (located_at f (place_in f code (head_length f.version) rs))))) (eq-eqb code minus_one e)
+    ap (λ (b : Bool). letter_of (rows_part s (cond b (Err (refusal bad_shape 0)) (located_at f (place_in f code (head_length f.version) rs)))) (found_at (cond b (Err (refusal bad_shape 0)) (located_at f (place_in f code (head_length f.version) rs))))) (eq-eqb code minus_one e)
 
 -- Two packs with one head tell the same letter of a code where their records have the same.
 same-found : (s t : List ℕ) (f : Head) (rs qs : List (List ℕ)) → meaning s ≡ says f rs → meaning t ≡ says f qs → (d : ℕ) → letter_in f d qs ≡ letter_in f d rs → letter_found t d ≡ letter_found s d

@@ -5,49 +5,45 @@ ghost use Rattle.std.specs.Prelude.{◌≡◌, ◌≤◌, length};
 ghost use Rattle.ground.specs.Limits.{max_height};
 ghost use Rattle.records.specs.Codes.{bits_of};
 ghost use Rattle.heads.specs.Pack.{meaning};
-ghost use Rattle.pack.specs.Calls.{good_letter, check_told, located_in, find_told, rows_told, LiesIn, removal, insertion, compaction, Changes, Puttable};
+ghost use Rattle.pack.specs.Calls.{opened_or_refused, good_letter, check_told, located_in, find_told, rows_told, LiesIn, removal, insertion, compaction, Changes, Puttable};
 
 use edits::{squeeze, write_record};
-use ground::refusals;
-use ground::refusals::Refusal;
+use ground::refusals::{Reason, Refusal};
 use heads::{Opened, open};
 use records::{
-    FREE, Head, MINUS_ONE, Place, Spot, bits_of, find_from, head_length, is_place, max_width,
-    record_head_length, spot_from,
+    FREE, Head, MINUS_ONE, Spot, bits_of, find_from, head_length, max_width, record_head_length,
+    spot_from,
 };
 use rows::are_legal;
 use subchars::Code;
 
-// Height and number of live records.
-#[derive(Clone, Copy)]
-pub enum PackAnswer {
-    Accepted { height: usize, live: usize },
-    Refused(Refusal),
+// What the test of a pack tells: its height and its number of live records.
+#[derive(Clone, Copy, PartialEq, Eq)]
+pub struct Accepted {
+    pub height: usize,
+    pub live: usize,
 }
 
 // Where the rows of a letter stand, its width, and how many bytes the rows have.
-#[derive(Clone, Copy)]
-pub enum Located {
-    Rows {
-        place: usize,
-        width: usize,
-        size: usize,
-    },
-    Refused(Refusal),
+#[derive(Clone, Copy, PartialEq, Eq)]
+pub struct Located {
+    pub place: usize,
+    pub width: usize,
+    pub size: usize,
 }
 
 // Where the rows of a letter stand, and its width.
-#[derive(Clone, Copy)]
-pub enum FindAnswer {
-    Found { place: usize, width: usize },
-    Refused(Refusal),
+#[derive(Clone, Copy, PartialEq, Eq)]
+pub struct Found {
+    pub place: usize,
+    pub width: usize,
 }
 
-// A change is done, or refused; then the pack is as it was lent.
-#[derive(Clone, Copy)]
-pub enum EditAnswer {
-    Done,
-    Refused(Refusal),
+// What a pack says, or that it is damaged.
+fn opened(pack: &[u8]) -> Result<Opened, Refusal>
+    ensures { result ≡ opened_or_refused (meaning pack.now) }
+{
+    open(pack).ok_or(Refusal::of(Reason::DamagedPack))
 }
 
 // Whether a letter may be put.
@@ -69,66 +65,42 @@ fn is_good_letter(head: Head, code: usize, width: usize, rows: &[u8]) -> bool
 }
 
 // Tests a whole pack.
-pub fn check(pack: &[u8]) -> PackAnswer
+pub fn check(pack: &[u8]) -> Result<Accepted, Refusal>
     ensures { result ≡ check_told (meaning pack.now) }
 {
-    match open(pack) {
-        Opened::Says { head, live } => PackAnswer::Accepted {
-            height: head.height,
-            live,
-        },
-        Opened::Damaged => PackAnswer::Refused(Refusal {
-            number: refusals::DAMAGED_PACK,
-            place: 0,
-        }),
-    }
+    let Opened { head, live } = opened(pack)?;
+    let height = head.height;
+    Ok(Accepted { height, live })
 }
 
 // Where the rows of a code's letter stand in a pack.
-fn locate(pack: &[u8], code: Code) -> Located
+fn locate(pack: &[u8], code: Code) -> Result<Located, Refusal>
     ensures { result ≡ located_in (meaning pack.now) (bits_of code.0) }
 {
-    match open(pack) {
-        Opened::Says { head, live: _ } => {
-            let bits = bits_of(code);
-            if bits == MINUS_ONE {
-                return Located::Refused(Refusal {
-                    number: refusals::BAD_SHAPE,
-                    place: 0,
-                });
-            }
-            let version = head.version;
-            match find_from(head, pack, head_length(version), bits) {
-                Place::At { at, width } => {
-                    let place = at + record_head_length(version);
-                    let size = head.height * width;
-                    Located::Rows { place, width, size }
-                }
-                Place::Nowhere => Located::Refused(Refusal {
-                    number: refusals::CODE_ABSENT,
-                    place: 0,
-                }),
-            }
-        }
-        Opened::Damaged => Located::Refused(Refusal {
-            number: refusals::DAMAGED_PACK,
-            place: 0,
-        }),
+    let head = opened(pack)?.head;
+    let bits = bits_of(code);
+    if bits == MINUS_ONE {
+        return Err(Refusal::of(Reason::BadShape));
     }
+    let version = head.version;
+    let found = find_from(head, pack, head_length(version), bits);
+    let letter = found.ok_or(Refusal::of(Reason::CodeAbsent))?;
+    let place = letter.at + record_head_length(version);
+    let width = letter.width;
+    let size = head.height * width;
+    Ok(Located { place, width, size })
 }
 
 // Width and place of the rows of a code's letter.
-pub fn find(pack: &[u8], code: Code) -> FindAnswer
+pub fn find(pack: &[u8], code: Code) -> Result<Found, Refusal>
     ensures { result ≡ find_told (meaning pack.now) (bits_of code.0) }
 {
-    match locate(pack, code) {
-        Located::Rows {
-            place,
-            width,
-            size: _,
-        } => FindAnswer::Found { place, width },
-        Located::Refused(r) => FindAnswer::Refused(r),
-    }
+    let Located {
+        place,
+        width,
+        size: _,
+    } = locate(pack, code)?;
+    Ok(Found { place, width })
 }
 
 // The rows of a code's letter, a part of the pack; nothing where `find` refuses.
@@ -137,116 +109,77 @@ pub fn find_rows<'a>(pack: &'a [u8], code: Code) -> &'a [u8]
     ensures place { LiesIn pack.entry (located_in (meaning pack.now) (bits_of code.0)) result }
 {
     match locate(pack, code) {
-        Located::Rows {
-            place,
-            width: _,
-            size,
-        } => {
-            let end = place + size;
-            &pack[place..end]
+        Ok(rows) => {
+            let end = rows.place + rows.size;
+            &pack[rows.place..end]
         }
-        Located::Refused(_) => &pack[0..0],
+        Err(_) => &pack[0..0],
     }
 }
 
 // Frees the record of a code.
-pub fn remove(pack: &mut [u8], code: Code) -> EditAnswer
+pub fn remove(pack: &mut [u8], code: Code) -> Result<(), Refusal>
     ensures { Changes (removal (meaning pack.old) (bits_of code.0)) pack.old result pack.new }
 {
-    match open(pack) {
-        Opened::Says { head, live: _ } => {
-            let bits = bits_of(code);
-            if bits == MINUS_ONE {
-                return EditAnswer::Refused(Refusal {
-                    number: refusals::BAD_SHAPE,
-                    place: 0,
-                });
-            }
-            match find_from(head, pack, head_length(head.version), bits) {
-                Place::At { at, width: _ } => {
-                    pack[at] = FREE;
-                    EditAnswer::Done
-                }
-                Place::Nowhere => EditAnswer::Refused(Refusal {
-                    number: refusals::CODE_ABSENT,
-                    place: 0,
-                }),
-            }
-        }
-        Opened::Damaged => EditAnswer::Refused(Refusal {
-            number: refusals::DAMAGED_PACK,
-            place: 0,
-        }),
+    let head = opened(pack)?.head;
+    let bits = bits_of(code);
+    if bits == MINUS_ONE {
+        return Err(Refusal::of(Reason::BadShape));
     }
+    let found = find_from(head, pack, head_length(head.version), bits);
+    let letter = found.ok_or(Refusal::of(Reason::CodeAbsent))?;
+    pack[letter.at] = FREE;
+    Ok(())
 }
 
 // Writes a good letter into a pack that says `head`.
-fn put_letter(head: Head, pack: &mut [u8], bits: usize, width: usize, rows: &[u8]) -> EditAnswer
+fn put_letter(
+    head: Head,
+    pack: &mut [u8],
+    bits: usize,
+    width: usize,
+    rows: &[u8],
+) -> Result<(), Refusal>
     requires { Puttable head pack.old bits width rows.now }
     ensures { Changes (insertion (meaning pack.old) (length pack.old) bits width rows.now) pack.old result pack.new }
 {
     let version = head.version;
     let from = head_length(version);
-    if is_place(find_from(head, pack, from, bits)) {
-        return EditAnswer::Refused(Refusal {
-            number: refusals::CODE_PRESENT,
-            place: 0,
-        });
+    if find_from(head, pack, from, bits).is_some() {
+        return Err(Refusal::of(Reason::CodePresent));
     }
     match spot_from(head, pack, from, width) {
         Spot::Free(at) => {
             write_record(version, pack, at, bits, width, rows);
-            EditAnswer::Done
         }
         Spot::Tail(at) => {
             let size = record_head_length(version) + rows.len();
             if pack.len() - at < size {
-                return EditAnswer::Refused(Refusal {
-                    number: refusals::NO_ROOM,
-                    place: 0,
-                });
+                return Err(Refusal::of(Reason::NoRoom));
             }
             write_record(version, pack, at, bits, width, rows);
-            EditAnswer::Done
         }
     }
+    Ok(())
 }
 
 // Writes a letter into the first free record of its width, else behind the last record.
-pub fn put(pack: &mut [u8], code: Code, width: usize, rows: &[u8]) -> EditAnswer
+pub fn put(pack: &mut [u8], code: Code, width: usize, rows: &[u8]) -> Result<(), Refusal>
     ensures { Changes (insertion (meaning pack.old) (length pack.old) (bits_of code.0) width rows.now) pack.old result pack.new }
 {
-    match open(pack) {
-        Opened::Says { head, live: _ } => {
-            let bits = bits_of(code);
-            if is_good_letter(head, bits, width, rows) {
-                put_letter(head, pack, bits, width, rows)
-            } else {
-                EditAnswer::Refused(Refusal {
-                    number: refusals::BAD_SHAPE,
-                    place: 0,
-                })
-            }
-        }
-        Opened::Damaged => EditAnswer::Refused(Refusal {
-            number: refusals::DAMAGED_PACK,
-            place: 0,
-        }),
+    let head = opened(pack)?.head;
+    let bits = bits_of(code);
+    if is_good_letter(head, bits, width, rows) {
+        return put_letter(head, pack, bits, width, rows);
     }
+    Err(Refusal::of(Reason::BadShape))
 }
 
 // Drops the free records.
-pub fn compact(pack: &mut [u8]) -> EditAnswer
+pub fn compact(pack: &mut [u8]) -> Result<(), Refusal>
     ensures { Changes (compaction (meaning pack.old)) pack.old result pack.new }
 {
-    match open(pack) {
-        Opened::Says { head, live: _ } => {
-            squeeze(head, pack, head_length(head.version));
-            EditAnswer::Done
-        }
-        Opened::Damaged => EditAnswer::Refused(Refusal {
-            number: refusals::DAMAGED_PACK,
-            place: 0,
-        }),
-    }
+    let head = opened(pack)?.head;
+    squeeze(head, pack, head_length(head.version));
+    Ok(())
 }

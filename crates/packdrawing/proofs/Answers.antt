@@ -10,9 +10,10 @@ use lib.Dec.{ltb, leb}
 use lib.ListN.{length}
 use borrow.Author.Tests.{ltb-true, ltb-false, leb-true, leb-false}
 use Rattle.ground.specs.Limits.{max_line_width, max_text, min_scratch, max_rules}
-use Rattle.ground.specs.Refusals.{refusal, area_too_small, control_file_too_long, too_many_commands, text_too_long, line_too_wide, bad_shape, damaged_pack}
+use Rattle.ground.specs.Refusals.{refusal, number_of, area_too_small, control_file_too_long, too_many_commands, text_too_long, line_too_wide, bad_shape, damaged_pack}
+use Rattle.ground.specs.declared.refusals.Reason.{Reason}
 use Rattle.ground.specs.declared.refusals.Refusal.{Refusal}
-use Rattle.ground.proofs.Tests.{and_left, and_right, and_none, not_true_false}
+use Rattle.ground.proofs.Tests.{and_left, and_right, and_none, not_true_false, clash}
 use Rattle.subchars.specs.declared.Direction.{Direction}
 use Rattle.subchars.specs.declared.Layout.{Layout}
 use Rattle.subchars.specs.declared.Layout.TheVariants.{FullWidth, Fitting, Smushing}
@@ -212,40 +213,40 @@ module _ (size : ℕ) (t : List ℕ) (layout : Layout) (direction : Direction) (
   abbrev Told : DrawAnswer → Type 0
   Told (Drawn w n) = DrawnAs w n
   Told (Refused r) =
-      (r.number ≡ damaged_pack → Damaged r.place) ×
-      (r.number ≡ bad_shape → BadShape r.place) ×
-      (control_file_too_long ≤ r.number → r.number ≤ too_many_commands → ControlFor r) ×
-      (r.number ≡ text_too_long → TooLong r.place) ×
-      (r.number ≡ line_too_wide → TooWide r.place) ×
-      (r.number ≡ area_too_small → TooSmall r.place)
+      (r.reason ≡ damaged_pack → Damaged r.place) ×
+      (r.reason ≡ bad_shape → BadShape r.place) ×
+      (number_of control_file_too_long ≤ number_of r.reason → number_of r.reason ≤ number_of too_many_commands → ControlFor r) ×
+      (r.reason ≡ text_too_long → TooLong r.place) ×
+      (r.reason ≡ line_too_wide → TooWide r.place) ×
+      (r.reason ≡ area_too_small → TooSmall r.place)
 
   told : (a : DrawAnswer) → DrawsTo a → Told a
-  told _ (scratch_small u) = (λ e. absurd (omega arith), λ e. absurd (omega arith), λ e f. absurd (omega arith), λ e. absurd (omega arith), λ e. absurd (omega arith), λ e. (refl, inl u))
-  told _ (pack_damaged u m) = (λ e. (refl, u, m), λ e. absurd (omega arith), λ e f. absurd (omega arith), λ e. absurd (omega arith), λ e. absurd (omega arith), λ e. absurd (omega arith))
+  told _ (scratch_small u) = (λ e. clash (cc), λ e. clash (cc), λ e f. absurd (omega arith), λ e. clash (cc), λ e. clash (cc), λ e. (refl, inl u))
+  told _ (pack_damaged u m) = (λ e. (refl, u, m), λ e. clash (cc), λ e f. absurd (omega arith), λ e. clash (cc), λ e. clash (cc), λ e. clash (cc))
   told _ (layout_refused u f rs m x) =
-      (λ e. absurd (omega arith), λ e. (refl, u, f, rs, m, x), λ e g. absurd (omega arith), λ e. absurd (omega arith), λ e. absurd (omega arith), λ e. absurd (omega arith))
+      (λ e. clash (cc), λ e. (refl, u, f, rs, m, x), λ e g. absurd (omega arith), λ e. clash (cc), λ e. clash (cc), λ e. clash (cc))
   told _ (control-refused u f rs m n r c) =
       let b = control-refusal control r c in (
-        λ e. absurd (omega (arith, b.1)),
-        λ e. absurd (omega (arith, b.1)),
+        λ e. absurd (omega (arith, b.1, ap number_of e)),
+        λ e. absurd (omega (arith, b.1, ap number_of e)),
         λ e g. (f, rs, (u, m, n), c),
-        λ e. absurd (omega (arith, b.1)),
-        λ e. absurd (omega (arith, b.1)),
-        λ e. absurd (omega (arith, b.0)),
+        λ e. absurd (omega (arith, b.1, ap number_of e)),
+        λ e. absurd (omega (arith, b.1, ap number_of e)),
+        λ e. absurd (omega (arith, b.0, ap number_of e)),
       )
   told _ (text_too_long_lem x l) =
-      (λ e. absurd (omega arith), λ e. absurd (omega arith), λ e f. absurd (omega arith), λ e. (refl, x.head, x.records, x.commands, x.stages, read x, l), λ e. absurd (omega arith), λ e. absurd (omega arith))
+      (λ e. clash (cc), λ e. clash (cc), λ e f. absurd (omega arith), λ e. (refl, x.head, x.records, x.commands, x.stages, read x, l), λ e. clash (cc), λ e. clash (cc))
   told _ (line_too_wide_lem x l w) =
-      (λ e. absurd (omega arith), λ e. absurd (omega arith), λ e f. absurd (omega arith), λ e. absurd (omega arith), λ e. (refl, x.head, x.records, x.commands, x.stages, read x, l, w), λ e. absurd (omega arith))
+      (λ e. clash (cc), λ e. clash (cc), λ e f. absurd (omega arith), λ e. clash (cc), λ e. (refl, x.head, x.records, x.commands, x.stages, read x, l, w), λ e. clash (cc))
   told _ (output-small x l w m) =
-      (λ e. absurd (omega arith), λ e. absurd (omega arith), λ e f. absurd (omega arith), λ e. absurd (omega arith), λ e. absurd (omega arith), λ e. (refl, inr (x.head, x.records, x.commands, x.stages, read x, l, w, m)))
+      (λ e. clash (cc), λ e. clash (cc), λ e f. absurd (omega arith), λ e. clash (cc), λ e. clash (cc), λ e. (refl, inr (x.head, x.records, x.commands, x.stages, read x, l, w, m)))
   told _ (draws x l w m) = (x.head, x.records, x.commands, x.stages, read x, l, w, m, refl, refl)
 
   tells : (a : DrawAnswer) → answer ≡ a → Told a
   tells a e = told a (subst DrawsTo e one_of)
 
-  refused-at : (number p : ℕ) → p ≡ 0 → answer ≡ Refused (refusal number 0) → answer ≡ Refused (refusal number p)
-  refused-at number p e a = subst (λ (q : ℕ). answer ≡ Refused (refusal number q)) (sym e) a
+  refused-at : (why : Reason) (p : ℕ) → p ≡ 0 → answer ≡ Refused (refusal why 0) → answer ≡ Refused (refusal why p)
+  refused-at why p e a = subst (λ (q : ℕ). answer ≡ Refused (refusal why q)) (sym e) a
 
   pub row_20 : (p : ℕ) → answer ≡ Refused (refusal damaged_pack p) ↔ Damaged p
   row_20 p = (λ e. (tells _ e).0 refl, λ w. refused-at damaged_pack p w.0 (gives _ (pack_damaged w.1 w.2)))
@@ -253,7 +254,7 @@ module _ (size : ℕ) (t : List ℕ) (layout : Layout) (direction : Direction) (
   pub row_17 : (p : ℕ) → answer ≡ Refused (refusal bad_shape p) ↔ BadShape p
   row_17 p = (λ e. (tells _ e).1 refl, λ w. refused-at bad_shape p w.0 (gives _ (layout_refused w.1 w.2 w.3 w.4 w.5)))
 
-  pub row-control : (r : Refusal) → control_file_too_long ≤ r.number → r.number ≤ too_many_commands → answer ≡ Refused r ↔ ControlFor r
+  pub row-control : (r : Refusal) → number_of control_file_too_long ≤ number_of r.reason → number_of r.reason ≤ number_of too_many_commands → answer ≡ Refused r ↔ ControlFor r
   row-control r u v = (λ e. (tells _ e).2 u v, λ w. gives _ (control-refused w.2.0 w.0 w.1 w.2.1 w.2.2 r w.3))
 
   pub row_15 : (p : ℕ) → answer ≡ Refused (refusal text_too_long p) ↔ TooLong p

@@ -23,16 +23,13 @@ use Rattle.blocks.proofs.Likeness.{like-same}
 use Rattle.figure.specs.Line.{empty, line_from}
 use Rattle.figure.proofs.Folding.{attached-like}
 use Rattle.showing.proofs.Showing.{output-like, bytes-like}
-use Rattle.header.specs.declared.Given.{Given}
-use Rattle.header.specs.declared.Given.TheVariants.{Absent, Of}
 use Rattle.header.specs.declared.Header.{Header}
 use Rattle.header.specs.Header.{layout_of}
 use Rattle.chars.specs.declared.Entry.{Entry}
 use Rattle.chars.specs.Codes.{code}
 use Rattle.font.specs.Font as font
 use Rattle.font.proofs.ReadingLaws.{font_numbered}
-use Rattle.reader.specs.declared.Use.{Use}
-use Rattle.reader.specs.declared.Use.TheVariants.{Used, Nothing}
+use Rattle.std.specs.Prelude.{Option, Some, None}
 use Rattle.reader.specs.Reader.{last_of, which_of, looked_up}
 use Rattle.flc.specs.Control as flc
 use Rattle.records.specs.declared.Head.{Head}
@@ -142,10 +139,10 @@ kind_good rules l = go (eqb rules 0) refl
         some zero q = absurd (true≢false q)
         some (suc k) q = omega arith
 
-layouts_good : (old : ℤ) (full : Given) → good_layout (layout_of old full) ≡ true
+layouts_good : (old : ℤ) (full : Option ℕ) → good_layout (layout_of old full) ≡ true
 unfolding full_layout_of
-layouts_good old Absent = old_good old
-layouts_good old (Of n) = go (has n 128) (has n 64)
+layouts_good old None = old_good old
+layouts_good old (Some n) = go (has n 128) (has n 64)
   where
     go : (a b : Bool) → good_layout (cond a (Smushing (smushing_by (n % 64))) (cond b Fitting FullWidth)) ≡ true
     go true b = kind_good (n % 64) (omega arith)
@@ -157,14 +154,14 @@ module _ (s : List ℕ) (h : Header) (es : List Entry) (font-said : font.reading
   shaped : good_layout h.layout ≡ true
   shaped = let x = font_numbered s h es font-said in ap good_layout x.layout ∙ layouts_good x.old x.full
 
-  choices : (u z : Use) (l k : Letter) → SameLetter s h.height u l → SameLetter s h.height z k → Alike h.height (choice_of s (which_of u z)) (of_letters l k)
-  choices (Used e) z (letter w rows) k p q = p
-  choices (Used e) z no_letter k p q = absurd p
-  choices Nothing z (letter w rows) k p q = absurd p
-  choices Nothing (Used e) no_letter (letter w rows) p q = q
-  choices Nothing (Used e) no_letter no_letter p q = absurd q
-  choices Nothing Nothing no_letter (letter w rows) p q = absurd q
-  choices Nothing Nothing no_letter no_letter p q = tt
+  choices : (u z : Option Entry) (l k : Letter) → SameLetter s h.height u l → SameLetter s h.height z k → Alike h.height (choice_of s (which_of u z)) (of_letters l k)
+  choices (Some e) z (letter w rows) k p q = p
+  choices (Some e) z no_letter k p q = absurd p
+  choices None z (letter w rows) k p q = absurd p
+  choices None (Some e) no_letter (letter w rows) p q = q
+  choices None (Some e) no_letter no_letter p q = absurd q
+  choices None None no_letter (letter w rows) p q = absurd q
+  choices None None no_letter no_letter p q = tt
 
   alike : (c : Code) → Alike h.height (font_source s es c) (pack_source f rs c)
   unfolding font_source looked_up pack_source

@@ -1,6 +1,6 @@
 -- Drawing a line of text from a pack: document 02, Q-6. "Drawing from a pack takes layout and direction with the call."
 -- Assumes nothing.
-use Rattle.std.specs.Prelude.{◌≡◌, ℕ, cond, List, ltb}
+use Rattle.std.specs.Prelude.{◌≡◌, ℕ, cond, List, ltb, Option, Some, None}
 use Rattle.ground.specs.Limits.{min_scratch}
 use Rattle.ground.specs.Refusals.{refusal, area_too_small, bad_shape, damaged_pack}
 use Rattle.subchars.specs.declared.Code.{Code}
@@ -12,8 +12,6 @@ use Rattle.join.specs.Shape.{good_layout}
 use Rattle.blocks.specs.Writing.{Like}
 use Rattle.header.specs.declared.Header.{Header}
 use Rattle.chars.specs.declared.Entry.{Entry}
-use Rattle.reader.specs.declared.Use.{Use}
-use Rattle.reader.specs.declared.Use.TheVariants.{Used, Nothing}
 use Rattle.reader.specs.Reader.{last_of}
 use Rattle.records.specs.declared.Head.{Head}
 use Rattle.records.specs.Letters.{Letter, letter, no_letter}
@@ -40,11 +38,11 @@ pack_lined scratch s layout direction control text = cond (ltb scratch min_scrat
 
 -- "If the pack has its Height and hardblank, its live records are exactly its characters": for each code the font's own character and the pack's letter
 -- have the same width and the same rows, or neither is there. Where a font repeats a code, its own is the last.
-abbrev pub SameLetter : List ℕ → ℕ → Use → Letter → Type 0
-SameLetter s h (Used e) (letter w rows) = Like h (character_of s e) (exact_block w rows)
-SameLetter s h (Used e) no_letter = ⊥
-SameLetter s h Nothing (letter w rows) = ⊥
-SameLetter s h Nothing no_letter = Unit
+abbrev pub SameLetter : List ℕ → ℕ → Option Entry → Letter → Type 0
+SameLetter s h (Some e) (letter w rows) = Like h (character_of s e) (exact_block w rows)
+SameLetter s h (Some e) no_letter = ⊥
+SameLetter s h None (letter w rows) = ⊥
+SameLetter s h None no_letter = Unit
 
 pub record MadeOf (s : List ℕ) (h : Header) (es : List Entry) (f : Head) (rs : List (List ℕ)) : Type 0 where
   pub height : f.height ≡ h.height

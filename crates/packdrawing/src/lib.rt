@@ -9,9 +9,8 @@ ghost use Rattle.drawing.specs.Drawing.{PutOut};
 ghost use Rattle.packdrawing.specs.PackDrawing.{pack_of, pack_lined};
 
 use drawing::DrawAnswer;
-use ground::refusals::Refusal;
-use ground::{limits, refusals};
-use heads::Opened;
+use ground::limits;
+use ground::refusals::{Reason, Refusal};
 use index::latest;
 use join::shape;
 use records::Head;
@@ -61,8 +60,7 @@ fn draw_opened(
             file,
         );
     }
-    let number = refusals::BAD_SHAPE;
-    drawing::refuse(Refusal { number, place: 0 }, out)
+    drawing::refuse(Refusal::of(Reason::BadShape), out)
 }
 
 // 9 for a scratch under 32,000 bytes, 20, then as above; the scratch holds anything afterwards.
@@ -78,17 +76,14 @@ fn draw_tested(
     ensures { PutOut (pack_lined (length scratch.old) pack.now layout direction file.now text.now) (length out.old) result out.new }
 {
     if scratch.len() < limits::MIN_SCRATCH {
-        let number = refusals::AREA_TOO_SMALL;
-        return drawing::refuse(Refusal { number, place: 0 }, out);
+        return drawing::refuse(Refusal::of(Reason::AreaTooSmall), out);
     }
     match heads::open(pack) {
-        Opened::Says { head, live: _ } => {
+        Some(opened) => {
+            let head = opened.head;
             draw_opened(out, scratch, text, head, pack, layout, direction, file)
         }
-        Opened::Damaged => {
-            let number = refusals::DAMAGED_PACK;
-            drawing::refuse(Refusal { number, place: 0 }, out)
-        }
+        None => drawing::refuse(Refusal::of(Reason::DamagedPack), out),
     }
 }
 

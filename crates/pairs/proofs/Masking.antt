@@ -2,7 +2,7 @@
 -- Assumes nothing.
 use mathlib.Core.Path.{◌≡◌, refl, sym, ◌∙◌, ap}
 use mathlib.Core.Bool.{Bool, true, false, cond, not}
-use mathlib.Core.Option.{some, none}
+use Rattle.std.specs.Prelude.{Some, None}
 use Prim.Native.Nat.{ℕ, ◌+◌, ◌*◌, ◌/◌, ◌%◌, ◌<◌}
 use native.Mathlib.Nat.{one-mul, zero-mul}
 use native.Mathlib.Omega.{arith}
@@ -55,7 +55,7 @@ alone Hardblank = refl
 
 module _ (h l r : ℕ) where
   -- the sum has one rule at most
-  one_number : (p : Rule) (x : ℕ) → by_rule p h l r ≡ some x → rules_joining h l r ≡ rule_number p
+  one_number : (p : Rule) (x : ℕ) → by_rule p h l r ≡ Some x → rules_joining h l r ≡ rule_number p
   unfolding rules_joining
   one_number p x e = rw (test EqualCharacter, test Underscore, test Hierarchy, test OppositePair, test BigX, test Hardblank) (alone p)
     where
@@ -65,21 +65,21 @@ module _ (h l r : ℕ) where
           (λ t. eq-eqb (rule_number q) (rule_number p) (ap rule_number (joined_by_only h l r q t ∙ sym (joined_by_only h l r p (is-some (by_rule p h l r) x e)))))
           (λ t. ap (λ (s : Rule). is_some (by_rule s h l r)) (same_number q p (eqb-true (rule_number q) (rule_number p) t)) ∙ is-some (by_rule p h l r) x e)
 
-  no_number : ((p : Rule) → by_rule p h l r ≡ none) → rules_joining h l r ≡ 0
+  no_number : ((p : Rule) → by_rule p h l r ≡ None) → rules_joining h l r ≡ 0
   unfolding rules_joining is_some
   no_number n = rw (n EqualCharacter, n Underscore, n Hierarchy, n OppositePair, n BigX, n Hardblank)
 
   module _ (set : ℕ) where
     -- what a set and the sum have in common: the number of the rule by which controlled smushing joins the pair, or nothing
     pub data Masked (n : ℕ) : Type 0 where
-      ruled : (p : Rule) (x : ℕ) → n ≡ rule_number p → by_rule p h l r ≡ some x → by p x ≡ controlled set h l r → Masked n
+      ruled : (p : Rule) (x : ℕ) → n ≡ rule_number p → by_rule p h l r ≡ Some x → by p x ≡ controlled set h l r → Masked n
       unruled : n ≡ 0 → Unjoinable ≡ controlled set h l r → Masked n
 
     pub masked : Masked (bit_and set (rules_joining h l r))
     unfolding kept_by_set
     masked = go (by_any h l r)
       where
-        kept_by : (p : Rule) (x : ℕ) → by_rule p h l r ≡ some x → its_rule h l r ≡ by p x → (t : Bool) → in_set set p ≡ t → Masked (bit_and set (rules_joining h l r))
+        kept_by : (p : Rule) (x : ℕ) → by_rule p h l r ≡ Some x → its_rule h l r ≡ by p x → (t : Bool) → in_set set p ≡ t → Masked (bit_and set (rules_joining h l r))
         kept_by p x e i true t =
             let bit = eqb-true (set / rule_number p % 2) 1 t in
             ruled p x (ap (bit_and set) (one_number p x e) ∙ (shared set p ∙ (ap (λ (b : ℕ). b * rule_number p) bit ∙ one-mul (rule_number p)))) e (sym (controlled-by set h l r p x t e))
@@ -101,7 +101,7 @@ module _ (h l r : ℕ) where
         go (unruled m j) = rw (eq-eqb (bit_and set (rules_joining h l r)) 0 m) (ap is_joined j)
 
     -- of a pair that joins, the byte is what its rule makes of it
-    pub ruled_joint : (z : ℕ) → ((x : ℕ) (p : Rule) → by_rule p h l r ≡ some x → z ≡ x) → is_joined (controlled set h l r) ≡ true → z ≡ byte_of (controlled set h l r)
+    pub ruled_joint : (z : ℕ) → ((x : ℕ) (p : Rule) → by_rule p h l r ≡ Some x → z ≡ x) → is_joined (controlled set h l r) ≡ true → z ≡ byte_of (controlled set h l r)
     ruled_joint z f t = go masked
       where
         go : Masked (bit_and set (rules_joining h l r)) → z ≡ byte_of (controlled set h l r)

@@ -4,7 +4,7 @@ use mathlib.Core.Path.{◌≡◌, refl, sym, ◌∙◌, ap}
 use mathlib.Core.Bool.{Bool, true, false, cond, true≢false, false≢true}
 use mathlib.Core.List.{List, [], ◌∷◌}
 use mathlib.Core.Logic.{◌⊎◌, inl, inr, ⊎_elim}
-use mathlib.Core.Option.{Option, none, some}
+use Rattle.std.specs.Prelude.{Option, Some, None}
 use Prim.Native.Nat.{ℕ}
 use Rattle.ground.proofs.Tests.{clash}
 use Rattle.subchars.specs.declared.SubCharacter.{SubCharacter}
@@ -37,12 +37,12 @@ by rule x = ByRule rule (record { 0 = x })
 
 -- What trying the rules of a list gives: a wanted one joins the pair, or none does.
 pub data Tried (wanted : Rule → Bool) (h l r : ℕ) (more : List Rule) (j : Joint) : Type 0 where
-  joined : (p : Rule) (x : ℕ) → wanted p ≡ true → by_rule p h l r ≡ some x → j ≡ by p x → Tried wanted h l r more j
-  unjoined : ((p : Rule) → Listed p more → wanted p ≡ true → by_rule p h l r ≡ none) → j ≡ Unjoinable → Tried wanted h l r more j
+  joined : (p : Rule) (x : ℕ) → wanted p ≡ true → by_rule p h l r ≡ Some x → j ≡ by p x → Tried wanted h l r more j
+  unjoined : ((p : Rule) → Listed p more → wanted p ≡ true → by_rule p h l r ≡ None) → j ≡ Unjoinable → Tried wanted h l r more j
 
 module _ (wanted : Rule → Bool) (h l r : ℕ) where
   -- a rule that does not join, before the others
-  behind : (q : Rule) (more : List Rule) (j : Joint) → (wanted q ≡ true → by_rule q h l r ≡ none) → Tried wanted h l r more j → Tried wanted h l r (q ∷ more) j
+  behind : (q : Rule) (more : List Rule) (j : Joint) → (wanted q ≡ true → by_rule q h l r ≡ None) → Tried wanted h l r more j → Tried wanted h l r (q ∷ more) j
   unfolding Listed
   behind q more j f (joined p x w e i) = joined p x w e i
   behind q more j f (unjoined n i) =
@@ -53,9 +53,9 @@ module _ (wanted : Rule → Bool) (h l r : ℕ) where
   tried [] = unjoined (λ p m w. absurd m) refl
   tried (q ∷ more) = go (wanted q) refl (by_rule q h l r) refl (tried more)
     where
-      go : (t : Bool) → wanted q ≡ t → (o : Option ℕ) → by_rule q h l r ≡ o → Tried wanted h l r more (first_rule wanted more h l r) → Tried wanted h l r (q ∷ more) (joined_by q (cond t o none) (first_rule wanted more h l r))
-      go true w (some x) e rest = joined q x w e refl
-      go true w none e rest = behind q more _ (λ v. e) rest
+      go : (t : Bool) → wanted q ≡ t → (o : Option ℕ) → by_rule q h l r ≡ o → Tried wanted h l r more (first_rule wanted more h l r) → Tried wanted h l r (q ∷ more) (joined_by q (cond t o None) (first_rule wanted more h l r))
+      go true w (Some x) e rest = joined q x w e refl
+      go true w None e rest = behind q more _ (λ v. e) rest
       go false w o e rest = behind q more _ (λ v. absurd (true≢false (sym v ∙ w))) rest
 
 module _ (set h l r : ℕ) where
@@ -64,34 +64,34 @@ module _ (set h l r : ℕ) where
   by-set = tried (in_set set) h l r rules
 
   -- "What its rule in the set gives": a pair that controlled smushing joins, it joins by a rule of the set.
-  pub controlled_in : (rule : Rule) (x : ℕ) → controlled set h l r ≡ by rule x → (in_set set rule ≡ true) × (by_rule rule h l r ≡ some x)
+  pub controlled_in : (rule : Rule) (x : ℕ) → controlled set h l r ≡ by rule x → (in_set set rule ≡ true) × (by_rule rule h l r ≡ Some x)
   controlled_in rule x e = go by-set
     where
-      go : Tried (in_set set) h l r rules (controlled set h l r) → (in_set set rule ≡ true) × (by_rule rule h l r ≡ some x)
+      go : Tried (in_set set) h l r rules (controlled set h l r) → (in_set set rule ≡ true) × (by_rule rule h l r ≡ Some x)
       go (joined p y w b i) =
           let same : p ≡ rule = cc in
           let sub : ◌≡◌ {A = SubCharacter} (record { 0 = y }) (record { 0 = x }) = cc in
           let byte : y ≡ x = ap (λ (s : SubCharacter). s.0) sub in
-          (sym (ap (in_set set) same) ∙ w, sym (ap (λ (q : Rule). by_rule q h l r) same) ∙ (b ∙ ap some byte))
+          (sym (ap (in_set set) same) ∙ w, sym (ap (λ (q : Rule). by_rule q h l r) same) ∙ (b ∙ ap Some byte))
       go (unjoined n i) = clash cc
 
   -- "A pair without a blank has as joint what .. its rule in the set gives": a rule of the set that joins the pair gives its byte.
-  pub controlled-by : (rule : Rule) (x : ℕ) → in_set set rule ≡ true → by_rule rule h l r ≡ some x → controlled set h l r ≡ by rule x
+  pub controlled-by : (rule : Rule) (x : ℕ) → in_set set rule ≡ true → by_rule rule h l r ≡ Some x → controlled set h l r ≡ by rule x
   controlled-by rule x w b = go by-set
     where
       go : Tried (in_set set) h l r rules (controlled set h l r) → controlled set h l r ≡ by rule x
       go (joined p y v c i) =
           let same : p ≡ rule = one_rule h l r p rule y x c b in
-          let value : some y ≡ some x = sym c ∙ (ap (λ (q : Rule). by_rule q h l r) same ∙ b) in
+          let value : Some y ≡ Some x = sym c ∙ (ap (λ (q : Rule). by_rule q h l r) same ∙ b) in
           let byte : y ≡ x = cc in
           i ∙ (ap (λ (q : Rule). by q y) same ∙ ap (by rule) byte)
-      go (unjoined n i) = let never : some x ≡ none = sym b ∙ n rule (listed rule) w in clash cc
+      go (unjoined n i) = let never : Some x ≡ None = sym b ∙ n rule (listed rule) w in clash cc
 
   -- "With no such rule controlled cannot join it": a pair that it cannot join, no rule of the set joins.
-  pub controlled_out : controlled set h l r ≡ Unjoinable → (rule : Rule) → in_set set rule ≡ true → by_rule rule h l r ≡ none
+  pub controlled_out : controlled set h l r ≡ Unjoinable → (rule : Rule) → in_set set rule ≡ true → by_rule rule h l r ≡ None
   controlled_out e rule w = go by-set
     where
-      go : Tried (in_set set) h l r rules (controlled set h l r) → by_rule rule h l r ≡ none
+      go : Tried (in_set set) h l r rules (controlled set h l r) → by_rule rule h l r ≡ None
       go (joined p y v b i) = clash cc
       go (unjoined n i) = n rule (listed rule) w
 
@@ -105,7 +105,7 @@ module _ (h l r : ℕ) where
   unfolding its_rule
   by_any = tried every_rule h l r rules
 
-  never : (p : Rule) (x : ℕ) → by_rule p h l r ≡ some x → by_rule p h l r ≡ none → ⊥
+  never : (p : Rule) (x : ℕ) → by_rule p h l r ≡ Some x → by_rule p h l r ≡ None → ⊥
   never p x a b = clash cc
 
   -- the only rule that can join a pair decides
@@ -115,10 +115,10 @@ module _ (h l r : ℕ) where
       go : Tried every_rule h l r rules (its_rule h l r) → its_rule h l r ≡ joined_by p o Unjoinable
       go (joined q x w c i) =
           let same : q ≡ p = joined_by_only h l r q (is-some _ x c) ∙ e in
-          let value : some x ≡ o = sym c ∙ (ap (λ (t : Rule). by_rule t h l r) same ∙ b) in
+          let value : Some x ≡ o = sym c ∙ (ap (λ (t : Rule). by_rule t h l r) same ∙ b) in
           i ∙ (ap (λ (t : Rule). by t x) same ∙ ap (λ (v : Option ℕ). joined_by p v Unjoinable) value)
       go (unjoined n i) =
-          let value : none ≡ o = sym (n p (listed p) refl) ∙ b in
+          let value : None ≡ o = sym (n p (listed p) refl) ∙ b in
           i ∙ ap (λ (v : Option ℕ). joined_by p v Unjoinable) value
 
   -- it is found without the set, which is asked of it afterwards
@@ -132,7 +132,7 @@ module _ (h l r : ℕ) where
 
       go : Tried (in_set set) h l r rules (controlled set h l r) → Tried every_rule h l r rules (its_rule h l r) → controlled set h l r ≡ kept_by_set set (its_rule h l r)
       go (joined p x w b i) any =
-          let its = found p (some x) (sym (joined_by_only h l r p (is-some _ x b))) b in
+          let its = found p (Some x) (sym (joined_by_only h l r p (is-some _ x b))) b in
           i ∙ sym (ap (kept_by_set set) its ∙ rw w)
       go (unjoined n i) (joined q y v c k) = i ∙ (asked q y (in_set set q) refl (λ w. never q y c (n q (listed q) w)) ∙ sym (ap (kept_by_set set) k))
       go (unjoined n i) (unjoined m k) = i ∙ sym (ap (kept_by_set set) k)

@@ -1,7 +1,6 @@
 -- What a pair of facing sub-characters becomes: document 01, "Layouts".
 -- Assumes nothing.
-use Rattle.std.specs.Prelude.{ℕ, ◌≡◌, Bool, true, false, cond, List, [], ◌∷◌, eqb}
-use Rattle.std.proofs.Math.Option.{Option, none, some}
+use Rattle.std.specs.Prelude.{ℕ, ◌≡◌, Bool, true, false, cond, List, [], ◌∷◌, eqb, Option, Some, None}
 use Rattle.subchars.specs.declared.Direction.{Direction}
 use Rattle.subchars.specs.declared.Direction.TheVariants.{LeftToRight, RightToLeft}
 use Rattle.subchars.specs.declared.Smushing.{Smushing as Kind}
@@ -18,13 +17,13 @@ use Rattle.pairs.specs.declared.Joint.TheVariants.{ByBlank, ByUniversal, ByRule,
 
 -- A pair that a rule joins, or else what is tried next.
 abbrev pub joined_by : Rule → Option ℕ → Joint → Joint
-joined_by rule (some x) next = ByRule rule (record { 0 = x })
-joined_by rule none next = next
+joined_by rule (Some x) next = ByRule rule (record { 0 = x })
+joined_by rule None next = next
 
 -- The first of the rules that is wanted and joins the pair. ("No pair is joined by two rules": `one_rule` of crate rules.)
 abbrev pub first_rule : (Rule → Bool) → List Rule → ℕ → ℕ → ℕ → Joint
 first_rule wanted [] h l r = Unjoinable
-first_rule wanted (rule ∷ more) h l r = joined_by rule (cond (wanted rule) (by_rule rule h l r) none) (first_rule wanted more h l r)
+first_rule wanted (rule ∷ more) h l r = joined_by rule (cond (wanted rule) (by_rule rule h l r) None) (first_rule wanted more h l r)
 
 -- The set, a sum of rules' numbers, has the rule.
 abbrev pub in_set : ℕ → Rule → Bool

@@ -10,7 +10,7 @@ use subchars::{Direction, Layout, Mode, Smushing, SubCharacter};
 
 // What a pair becomes, and by what: a blank that yields, universal smushing, or a rule. (Document 01 calls the byte of the last two the
 // pair's joint.)
-#[derive(Clone, Copy)]
+#[derive(Clone, Copy, PartialEq, Eq)]
 pub enum Joint {
     ByBlank(SubCharacter),
     ByUniversal(SubCharacter),
@@ -20,6 +20,7 @@ pub enum Joint {
 
 const NONE: SubCharacter = SubCharacter(0);
 
+#[tactic(auto, using(crate::proofs::Masking::masked, crate::proofs::Masking::positive_not))]
 fn controlled_joint(
     set: u8,
     hardblank: SubCharacter,
@@ -46,6 +47,7 @@ fn later_of(direction: Direction, left: SubCharacter, right: SubCharacter) -> Su
     }
 }
 
+#[tactic(auto, unfolding(crate::specs::Pair::universal))]
 fn universal_joint(
     direction: Direction,
     hardblank: SubCharacter,
@@ -54,10 +56,10 @@ fn universal_joint(
 ) -> Joint
     ensures { result ≡ universal direction hardblank.0 left.0 right.0 }
 {
-    if left.0 == hardblank.0 {
+    if left == hardblank {
         return Joint::ByUniversal(right);
     }
-    if right.0 == hardblank.0 {
+    if right == hardblank {
         return Joint::ByUniversal(left);
     }
     Joint::ByUniversal(later_of(direction, left, right))
@@ -80,6 +82,7 @@ fn smushed_joint(
 }
 
 // What a pair of facing sub-characters becomes, and by what.
+#[tactic(auto, unfolding(crate::specs::Pair::joint))]
 pub fn joint_of(mode: Mode, left: SubCharacter, right: SubCharacter) -> Joint
     ensures { result ≡ joint mode left.0 right.0 }
 {
@@ -111,6 +114,7 @@ fn byte_of(j: Joint) -> SubCharacter
 }
 
 // Whether a kind of smushing joins a pair without a blank, in either direction.
+#[tactic(auto, using(crate::proofs::Masking::mask_joins), unfolding(crate::specs::Pair::universal))]
 fn smushes(kind: Smushing, hardblank: SubCharacter, left: SubCharacter, right: SubCharacter) -> bool
     requires { (left.0 ≡ blank → ⊥) × (right.0 ≡ blank → ⊥) }
     ensures { (d : Direction) → result ≡ is_joined (smushed kind d hardblank.0 left.0 right.0) }
@@ -122,6 +126,7 @@ fn smushes(kind: Smushing, hardblank: SubCharacter, left: SubCharacter, right: S
 }
 
 // Whether the mode can join a pair.
+#[tactic(auto, unfolding(crate::specs::Pair::joins, crate::specs::Pair::joint))]
 pub fn can_join(mode: Mode, left: SubCharacter, right: SubCharacter) -> bool
     ensures { result ≡ joins mode left.0 right.0 }
 {
@@ -165,6 +170,7 @@ fn smushed_byte(
 }
 
 // What a pair becomes that is known to join: no table is asked whether it does. Without a blank only smushing joins.
+#[tactic(auto, unfolding(crate::specs::Pair::joins, crate::specs::Pair::joint))]
 pub fn joining_byte(mode: Mode, left: SubCharacter, right: SubCharacter) -> SubCharacter
     requires { joins mode left.0 right.0 ≡ true }
     ensures { result.0 ≡ byte_of (joint mode left.0 right.0) }

@@ -1,40 +1,31 @@
 // A font read into three lists of numbers, and the character that is used for a code.
 #![tactic(auto)]
 
-ghost use Rattle.std.specs.Prelude.{◌≡◌, List, length, take};
+ghost use Rattle.std.specs.Prelude.{◌≡◌, Some, List, length, take};
 ghost use Rattle.ground.specs.Limits.{max_characters};
 ghost use Rattle.chars.specs.declared.Entry.{Entry};
 ghost use Rattle.index.specs.Index.{CharacterRoom, Lists};
 ghost use Rattle.index.specs.Latest.{Latest};
 ghost use Rattle.font.specs.Font.{format, reading};
-ghost use Rattle.reader.specs.declared.Use.TheVariants.{Used};
 ghost use Rattle.reader.specs.Reader.{ReadInto, Behind, FoundBelow, at_found, used, looked_up};
 
 use chars::Entry;
-use font::Opening;
 use ground::refusals::Refusal;
 use header::Header;
-use index::{Filling, Found, latest};
+use index::latest;
 use lines::Cursor;
 use rows::Format;
 use subchars::Code;
 
-// What reading a font answers: its header, with the layout, and how many characters it has; or a refusal.
+// What reading a font answers: its header, with the layout, and how many characters it has.
 #[derive(Clone, Copy)]
-pub enum FontAnswer {
-    Read { header: Header, count: usize },
-    Refused(Refusal),
-}
-
-// The character that is used for a code.
-#[derive(Clone, Copy)]
-pub enum Use {
-    Used(Entry),
-    Nothing,
+pub struct FontRead {
+    pub header: Header,
+    pub count: usize,
 }
 
 // Which of three looking a code up came to: its own character, the one of code 0 that stands in for it, or nothing.
-#[derive(Clone, Copy)]
+#[derive(Clone, Copy, PartialEq, Eq)]
 pub enum LookedUp {
     Found(Entry),
     StoodIn(Entry),
@@ -45,9 +36,8 @@ pub enum LookedUp {
 fn format_of(h: Header) -> Format
     ensures { result ≡ format h }
 {
-    let hardblank = h.hardblank;
     Format {
-        hardblank,
+        hardblank: h.hardblank,
         height: h.height,
         max_length: h.max_length,
     }
@@ -61,18 +51,12 @@ fn read_characters(
     codes: &mut [i32],
     starts: &mut [usize],
     widths: &mut [usize],
-) -> FontAnswer
+) -> Result<FontRead, Refusal>
     requires { CharacterRoom max_characters codes.old starts.old widths.old }
     ensures { Behind h font.now cursor.at result codes.new starts.new widths.new }
 {
-    let f = format_of(h);
-    match index::fill(f, font, cursor, codes, starts, widths) {
-        Filling::Filled(n) => FontAnswer::Read {
-            header: h,
-            count: n,
-        },
-        Filling::Failed(r) => FontAnswer::Refused(r),
-    }
+    let count = index::fill(format_of(h), font, cursor, codes, starts, widths)?;
+    Ok(FontRead { header: h, count })
 }
 
 // Reads a font into the lists, one pass over it.
@@ -81,32 +65,32 @@ pub fn read_lists(
     codes: &mut [i32],
     starts: &mut [usize],
     widths: &mut [usize],
-) -> FontAnswer
+) -> Result<FontRead, Refusal>
     requires { CharacterRoom max_characters codes.old starts.old widths.old }
     ensures { ReadInto (reading font.now) result codes.new starts.new widths.new }
 {
-    match font::open_font(font) {
-        Opening::Open { header, next } => {
-            read_characters(header, font, next, codes, starts, widths)
-        }
-        Opening::Closed(r) => FontAnswer::Refused(r),
-    }
+    let opening = font::open_font(font)?;
+    read_characters(opening.header, font, opening.next, codes, starts, widths)
 }
 
 // What the lists hold at the place that look-up found.
-fn entry_at(codes: &[i32], starts: &[usize], widths: &[usize], count: usize, found: Found) -> Use
+fn entry_at(
+    codes: &[i32],
+    starts: &[usize],
+    widths: &[usize],
+    count: usize,
+    found: Option<usize>,
+) -> Option<Entry>
     requires character_room { CharacterRoom count codes.now starts.now widths.now }
     requires found_below { FoundBelow count found }
     ensures { (es : List Entry) → count ≡ length es → Lists es codes.now starts.now widths.now → result ≡ at_found found es }
 {
-    match found {
-        Found::At(k) => Use::Used(Entry {
-            code: Code(codes[k]),
-            start: starts[k],
-            width: widths[k],
-        }),
-        Found::Nowhere => Use::Nothing,
-    }
+    let k = found?;
+    Some(Entry {
+        code: Code(codes[k]),
+        start: starts[k],
+        width: widths[k],
+    })
 }
 
 // The character that is used for a code, of those that the lists begin with.
@@ -116,7 +100,7 @@ pub fn find_entry(
     widths: &[usize],
     count: usize,
     code: Code,
-) -> Use
+) -> Option<Entry>
     requires { CharacterRoom count codes.now starts.now widths.now }
     ensures { (es : List Entry) → count ≡ length es → Lists es codes.now starts.now widths.now → result ≡ used code es }
 {
@@ -132,7 +116,7 @@ pub fn find_known(
     count: usize,
     places: &[usize],
     code: Code,
-) -> Use
+) -> Option<Entry>
     requires character_room { CharacterRoom count codes.now starts.now widths.now }
     requires latest { Latest (take count codes.now) places.now }
     ensures { (es : List Entry) → count ≡ length es → Lists es codes.now starts.now widths.now → result ≡ used code es }
@@ -143,21 +127,20 @@ pub fn find_known(
 
 // Which of three an entry is that is used for a code: the code's own if it has that code, and otherwise the one that stands in.
 pub fn which_of(entry: Entry, code: Code) -> LookedUp
-    ensures { (es : List Entry) → used code es ≡ Used entry → result ≡ looked_up code es }
+    ensures { (es : List Entry) → used code es ≡ Some entry → result ≡ looked_up code es }
 {
-    let own = entry.code;
-    if chars::same_code(own, code) {
+    if entry.code == code {
         return LookedUp::Found(entry);
     }
     LookedUp::StoodIn(entry)
 }
 
 // The same of what is used for a code, which may be nothing.
-pub fn which_used(it: Use, code: Code) -> LookedUp
+pub fn which_used(it: Option<Entry>, code: Code) -> LookedUp
     ensures { (es : List Entry) → used code es ≡ it → result ≡ looked_up code es }
 {
     match it {
-        Use::Used(entry) => which_of(entry, code),
-        Use::Nothing => LookedUp::Nothing,
+        Some(entry) => which_of(entry, code),
+        None => LookedUp::Nothing,
     }
 }

@@ -13,12 +13,13 @@ use Rattle.ground.specs.Runs.{all}
 use Rattle.ground.proofs.Tests.{and_left, and_right, and_both, clash}
 use Rattle.areas.specs.Numbers.{number_of}
 use Rattle.records.specs.declared.Head.{Head}
-use Rattle.records.specs.declared.Scan.TheVariants.{Record, End, Damaged}
-use Rattle.records.specs.declared.Skim.TheVariants as skimmed
+use Rattle.records.specs.declared.Record.{Record}
+use Rattle.records.specs.declared.Scan.TheVariants as scanned
+use Rattle.std.specs.Prelude.{Some, None}
 use Rattle.records.specs.Versions.{width_length, record_head_length}
 use Rattle.rows.specs.Rows.{legal_byte}
 use Rattle.records.specs.Records.{is_zero, is_live, code_in, width_in, rows_in, size_in, good_fields, good_record, RecordList, list_ends, with_record, records_from, record_list}
-use Rattle.records.specs.Steps.{scan_of, skim_of}
+use Rattle.records.specs.Steps.{record_at, scan_of, skim_of}
 use Rattle.records.proofs.VersionLaws.{width_length_low}
 
 module _ (f : Head) where
@@ -129,18 +130,26 @@ module _ (f : Head) where
     pub width_front : width_in f (take m t) ≡ width_in f t
     width_front = sym (width-behind (take m t) (drop m t) head_in) ∙ ap (width_in f) whole_is
 
-  -- A record that a scan finds.
-  pub record Stands (t : List ℕ) (live : Bool) (code width size : ℕ) : Type 0 where
-    pub listed : record_list f t ≡ with_record (take size t) (record_list f (drop size t))
-    pub live-is : is_live (take size t) ≡ live
-    pub code_is : code_in (take size t) ≡ code
-    pub width_is : width_in f (take size t) ≡ width
-    pub size_is : size ≡ record_head_length f.version + f.height * width
-    pub long : length (take size t) ≡ size
-    pub inside : size ≤ length t
-    pub some : 0 < size
+    pub record_front : record_at f (take m t) ≡ record_at f t
+    unfolding size_in
+    record_front =
+        ap (λ (j : Bool). record_of j (code_in (take m t)) (width_in f (take m t))) live_front ∙
+        ap (λ (j : ℕ). record_of (is_live t) j (width_in f (take m t))) code_front ∙
+        ap (record_of (is_live t) (code_in t)) width_front
+      where
+        record_of : Bool → ℕ → ℕ → Record
+        record_of l c w = record { live = l; code = c; width = w; size = record_head_length f.version + f.height * w }
 
-  stands : (t : List ℕ) → all is_zero t ≡ false → good_record f t ≡ true → Stands t (is_live t) (code_in t) (width_in f t) (size_in f t)
+  -- A record that a scan finds.
+  pub record Stands (t : List ℕ) (r : Record) : Type 0 where
+    pub listed : record_list f t ≡ with_record (take r.size t) (record_list f (drop r.size t))
+    pub is : record_at f (take r.size t) ≡ r
+    pub size_is : r.size ≡ record_head_length f.version + f.height * r.width
+    pub long : length (take r.size t) ≡ r.size
+    pub inside : r.size ≤ length t
+    pub some : 0 < r.size
+
+  stands : (t : List ℕ) → all is_zero t ≡ false → good_record f t ≡ true → Stands t (record_at f t)
   unfolding size_in
   stands t z g =
       let h = fine t g in
@@ -148,62 +157,55 @@ module _ (f : Head) where
       let l : record_head_length f.version ≤ m = omega arith in
       record {
         listed = listing_step t ∙ rw (z, g);
-        live-is = live_front t m l h.size;
-        code_is = code_front t m l h.size;
-        width_is = width_front t m l h.size;
+        is = record_front t m l h.size;
         size_is = refl;
         long = length-take-le m t h.size;
         inside = h.size;
         some = omega (arith, size-some t);
       }
 
-  pub scan_record : (t : List ℕ) (live : Bool) (code width size : ℕ) → Record live code width size ≡ scan_of f t → Stands t live code width size
+  pub scan_record : (t : List ℕ) (r : Record) → scanned.Record r ≡ scan_of f t → Stands t r
   unfolding scan_of
-  scan_record t live code width size e = go (all is_zero t) refl (good_record f t) refl e
+  scan_record t r e = go (all is_zero t) refl (good_record f t) refl e
     where
-      go : (z : Bool) → all is_zero t ≡ z → (g : Bool) → good_record f t ≡ g → Record live code width size ≡ cond z End (cond g (Record (is_live t) (code_in t) (width_in f t) (size_in f t)) Damaged) → Stands t live code width size
+      go : (z : Bool) → all is_zero t ≡ z → (g : Bool) → good_record f t ≡ g → scanned.Record r ≡ cond z scanned.End (cond g (scanned.Record (record_at f t)) scanned.Damaged) → Stands t r
       go true p g q e = clash (cc)
       go false p false q e = clash (cc)
-      go false p true q e =
-          let a : is_live t ≡ live = cc in
-          let b : code_in t ≡ code = cc in
-          let d : width_in f t ≡ width = cc in
-          let k : size_in f t ≡ size = cc in
-          subst (λ (j : Bool). Stands t j code width size) a (subst (λ (j : ℕ). Stands t (is_live t) j width size) b (subst (λ (j : ℕ). Stands t (is_live t) (code_in t) j size) d (subst (Stands t (is_live t) (code_in t) (width_in f t)) k (stands t p q))))
+      go false p true q e = let k : record_at f t ≡ r = cc in subst (Stands t) k (stands t p q)
 
-  pub scan_end : (t : List ℕ) → End ≡ scan_of f t → record_list f t ≡ list_ends true
+  pub scan_end : (t : List ℕ) → scanned.End ≡ scan_of f t → record_list f t ≡ list_ends true
   unfolding scan_of
   scan_end t e = listing_step t ∙ go (all is_zero t) (good_record f t) (with_record (take (size_in f t) t) (record_list f (drop (size_in f t) t))) e
     where
-      go : (z g : Bool) (x : RecordList) → End ≡ cond z End (cond g (Record (is_live t) (code_in t) (width_in f t) (size_in f t)) Damaged) → cond z (list_ends true) (cond g x (list_ends false)) ≡ list_ends true
+      go : (z g : Bool) (x : RecordList) → scanned.End ≡ cond z scanned.End (cond g (scanned.Record (record_at f t)) scanned.Damaged) → cond z (list_ends true) (cond g x (list_ends false)) ≡ list_ends true
       go true g x e = refl
       go false true x e = clash (cc)
       go false false x e = clash (cc)
 
-  pub scan_damaged : (t : List ℕ) → Damaged ≡ scan_of f t → record_list f t ≡ list_ends false
+  pub scan_damaged : (t : List ℕ) → scanned.Damaged ≡ scan_of f t → record_list f t ≡ list_ends false
   unfolding scan_of
   scan_damaged t e = listing_step t ∙ go (all is_zero t) (good_record f t) (with_record (take (size_in f t) t) (record_list f (drop (size_in f t) t))) e
     where
-      go : (z g : Bool) (x : RecordList) → Damaged ≡ cond z End (cond g (Record (is_live t) (code_in t) (width_in f t) (size_in f t)) Damaged) → cond z (list_ends true) (cond g x (list_ends false)) ≡ list_ends false
+      go : (z g : Bool) (x : RecordList) → scanned.Damaged ≡ cond z scanned.End (cond g (scanned.Record (record_at f t)) scanned.Damaged) → cond z (list_ends true) (cond g x (list_ends false)) ≡ list_ends false
       go true g x e = clash (cc)
       go false true x e = clash (cc)
       go false false x e = refl
 
   -- What a skim finds in a list that is whole is what a scan finds.
-  pub skim_scan : (t : List ℕ) (live : Bool) (code width size : ℕ) → (record_list f t).whole ≡ true → skimmed.Record live code width size ≡ skim_of f t → Record live code width size ≡ scan_of f t
+  pub skim_scan : (t : List ℕ) (r : Record) → (record_list f t).whole ≡ true → Some r ≡ skim_of f t → scanned.Record r ≡ scan_of f t
   unfolding skim_of scan_of
-  skim_scan t live code width size w e = go (all is_zero t) refl e
+  skim_scan t r w e = go (all is_zero t) refl e
     where
-      go : (z : Bool) → all is_zero t ≡ z → skimmed.Record live code width size ≡ cond z skimmed.End (skimmed.Record (is_live t) (code_in t) (width_in f t) (size_in f t)) → Record live code width size ≡ cond z End (cond (good_record f t) (Record (is_live t) (code_in t) (width_in f t) (size_in f t)) Damaged)
+      go : (z : Bool) → all is_zero t ≡ z → Some r ≡ cond z None (Some (record_at f t)) → scanned.Record r ≡ cond z scanned.End (cond (good_record f t) (scanned.Record (record_at f t)) scanned.Damaged)
       go true p e = clash (cc)
       go false p e =
-          let q : Record live code width size ≡ Record (is_live t) (code_in t) (width_in f t) (size_in f t) = cc in
+          let q : scanned.Record r ≡ scanned.Record (record_at f t) = cc in
           q ∙ sym (rw (whole_good t w p))
 
-  pub skim_scan_end : (t : List ℕ) → skimmed.End ≡ skim_of f t → End ≡ scan_of f t
+  pub skim_scan_end : (t : List ℕ) → None ≡ skim_of f t → scanned.End ≡ scan_of f t
   unfolding skim_of scan_of
   skim_scan_end t e = go (all is_zero t) e
     where
-      go : (z : Bool) → skimmed.End ≡ cond z skimmed.End (skimmed.Record (is_live t) (code_in t) (width_in f t) (size_in f t)) → End ≡ cond z End (cond (good_record f t) (Record (is_live t) (code_in t) (width_in f t) (size_in f t)) Damaged)
+      go : (z : Bool) → None ≡ cond z None (Some (record_at f t)) → scanned.End ≡ cond z scanned.End (cond (good_record f t) (scanned.Record (record_at f t)) scanned.Damaged)
       go true e = refl
       go false e = clash (cc)

@@ -1,86 +1,58 @@
 // The records of a pack: one at the start of a part of the pack, and what is found among them.
 #![tactic(auto)]
 
-ghost use Rattle.std.specs.Prelude.{◌≡◌, true, cond, ◌&&◌, ◌+◌, ◌≤◌, ◌<◌, length, drop};
+ghost use Rattle.std.specs.Prelude.{◌≡◌, Bool, true, ◌&&◌, ◌+◌, ◌≤◌, ◌<◌, length, drop};
 ghost use Rattle.ground.specs.Limits.{max_height};
 ghost use Rattle.ground.specs.Runs.{all};
+ghost use Rattle.records.specs.declared.Record.{Record};
 ghost use Rattle.records.specs.Codes.{bits_of};
 ghost use Rattle.records.specs.Versions.{head_length, width_length, record_head_length, max_width};
 ghost use Rattle.records.specs.Records.{is_zero, good_fields, record_list, has_live, none_twice};
-ghost use Rattle.records.specs.Places.{place_in, is_place, spot_in};
-ghost use Rattle.records.specs.Steps.{scan_of, skim_of, Walkable, is_wanted, met_in, counted_from, soundness};
+ghost use Rattle.records.specs.Places.{place_in, spot_in};
+ghost use Rattle.records.specs.Steps.{scan_of, skim_of, Walkable, Tests, first_in, counted_from, soundness};
 
 use areas::number_at;
-use ground::{both, limits};
+use ground::limits;
 use rows::are_legal;
 use subchars::{Code, SubCharacter};
 
 // What the head of a pack says.
-#[derive(Clone, Copy)]
+#[derive(Clone, Copy, PartialEq, Eq)]
 pub struct Head {
     pub version: usize,
     pub height: usize,
     pub hardblank: SubCharacter,
 }
 
-// What stands at the start of a part of a pack: a record of a size, zeros to the end, or neither.
-#[derive(Clone, Copy)]
+// A record: whether it is live, its code and its width, and how many bytes it has.
+#[derive(Clone, Copy, PartialEq, Eq)]
+pub struct Record {
+    pub live: bool,
+    pub code: usize,
+    pub width: usize,
+    pub size: usize,
+}
+
+// What stands at the start of a part of a pack: a record, zeros to the end, or neither.
+#[derive(Clone, Copy, PartialEq, Eq)]
 pub enum Scan {
-    Record {
-        live: bool,
-        code: usize,
-        width: usize,
-        size: usize,
-    },
+    Record(Record),
     End,
     Damaged,
 }
 
-// What stands at the start of a part that is known to hold whole records and zeros behind them.
-#[derive(Clone, Copy)]
-pub enum Skim {
-    Record {
-        live: bool,
-        code: usize,
-        width: usize,
-        size: usize,
-    },
-    End,
-}
-
-// Where a live record starts, and its width.
-#[derive(Clone, Copy)]
-pub enum Place {
-    At { at: usize, width: usize },
-    Nowhere,
+// Where a record starts, and its width.
+#[derive(Clone, Copy, PartialEq, Eq)]
+pub struct Place {
+    pub at: usize,
+    pub width: usize,
 }
 
 // Where the first free record of a width starts, or else where the records end.
-#[derive(Clone, Copy)]
+#[derive(Clone, Copy, PartialEq, Eq)]
 pub enum Spot {
     Free(usize),
     Tail(usize),
-}
-
-// What a walk over the records seeks: the live record of a code, or a free one of a width.
-#[derive(Clone, Copy)]
-pub enum Wanted {
-    Live(usize),
-    Free(usize),
-}
-
-// Where the first record that is wanted starts, and its width, or else where the records end.
-#[derive(Clone, Copy)]
-pub enum Met {
-    At { at: usize, width: usize },
-    End(usize),
-}
-
-// How many records are live, if all is well with the records.
-#[derive(Clone, Copy)]
-pub enum Verdict {
-    Sound(usize),
-    Broken,
 }
 
 // Status and code of a record, before its width.
@@ -134,30 +106,15 @@ pub fn bits_of(code: Code) -> usize
 fn is_zeros(t: &[u8]) -> bool
     ensures { result ≡ all is_zero t.now }
 {
-    let mut i: usize = 0;
-    while i < t.len() {
-        if t[i] != 0 {
-            return false;
-        }
-        i += 1;
-    }
-    true
+    t.iter().all(|&b| b == 0)
 }
 
 // Whether status, code and width may stand in a record.
+#[tactic(auto, unfolding(crate::specs::Records::good_fields))]
 fn are_good_fields(version: usize, status: u8, code: usize, width: usize) -> bool
     ensures { result ≡ good_fields version status code width }
 {
-    if code == MINUS_ONE {
-        return false;
-    }
-    if max_width(version) < width {
-        return false;
-    }
-    if status == LIVE {
-        return true;
-    }
-    status == FREE
+    code != MINUS_ONE && width <= max_width(version) && (status == LIVE || status == FREE)
 }
 
 // What stands at the start of a part of a pack.
@@ -183,87 +140,70 @@ pub fn scan_part(head: Head, t: &[u8]) -> Scan
         }
         let hardblank = head.hardblank;
         if are_legal(&t[start..size], hardblank) {
-            return Scan::Record {
+            return Scan::Record(Record {
                 live: status == LIVE,
                 code,
                 width,
                 size,
-            };
+            });
         }
     }
     Scan::Damaged
 }
 
 // What stands at the start of a part that is known to be whole. It looks at a record's head only.
-pub fn skim_part(head: Head, t: &[u8]) -> Skim
+pub fn skim_part(head: Head, t: &[u8]) -> Option<Record>
     requires { (head.height ≤ max_height) × ((record_list head t.now).whole ≡ true) }
     ensures { result ≡ skim_of head t.now }
 {
     if t.len() == 0 {
-        return Skim::End;
+        return None;
     }
     let status = t[0];
     if status == 0 {
-        return Skim::End;
+        return None;
     }
     let version = head.version;
     let start = record_head_length(version);
     let code = number_at(t, 1, 4);
     let width = number_at(t, BEFORE_WIDTH, width_length(version));
     let size = start + head.height * width;
-    Skim::Record {
+    Some(Record {
         live: status == LIVE,
         code,
         width,
         size,
-    }
+    })
 }
 
-// Whether a record is the one that is wanted.
-fn is_wanted(wanted: Wanted, live: bool, code: usize, width: usize) -> bool
-    ensures { result ≡ is_wanted wanted live code width }
-{
-    match wanted {
-        Wanted::Live(c) => both(live, code == c),
-        Wanted::Free(w) => both(!live, width == w),
-    }
-}
-
-// The first record that is wanted, from a place on.
-fn first_from(head: Head, s: &[u8], from: usize, wanted: Wanted) -> Met
-    requires { Walkable head s.now from }
-    ensures { result ≡ met_in head wanted from (record_list head (drop from s.now)).records }
+// The first record that passes a test, from a place on; or else where the records end.
+fn first_from<F: Fn(Record) -> bool>(
+    head: Head,
+    s: &[u8],
+    from: usize,
+    wanted: F,
+) -> Result<Place, usize>
+    requires callable { F.IsAlwaysCallable wanted }
+    requires walkable { Walkable head s.now from }
+    ensures { (p : Record → Bool) → Tests (F.post wanted) p → result ≡ first_in head p from (record_list head (drop from s.now)).records }
 {
     let mut at = from;
-    loop {
-        match skim_part(head, &s[at..]) {
-            Skim::Record {
-                live,
-                code,
-                width,
-                size,
-            } => {
-                if is_wanted(wanted, live, code, width) {
-                    return Met::At { at, width };
-                }
-                at += size;
-            }
-            Skim::End => {
-                return Met::End(at);
-            }
+    while let Some(found) = skim_part(head, &s[at..]) {
+        if wanted(found) {
+            let width = found.width;
+            return Ok(Place { at, width });
         }
+        at += found.size;
     }
+    Err(at)
 }
 
 // Where the live record of a code is, from a place on.
-pub fn find_from(head: Head, s: &[u8], from: usize, code: usize) -> Place
+pub fn find_from(head: Head, s: &[u8], from: usize, code: usize) -> Option<Place>
     requires { Walkable head s.now from }
     ensures { result ≡ place_in head code from (record_list head (drop from s.now)).records }
 {
-    match first_from(head, s, from, Wanted::Live(code)) {
-        Met::At { at, width } => Place::At { at, width },
-        Met::End(_) => Place::Nowhere,
-    }
+    first_from(head, s, from, |found| found.live && found.code == code).ok()
 }
 
 // The first free record of a width, or the end of the records, from a place on.
@@ -271,30 +211,18 @@ pub fn spot_from(head: Head, s: &[u8], from: usize, width: usize) -> Spot
     requires { Walkable head s.now from }
     ensures { result ≡ spot_in head width from (record_list head (drop from s.now)).records }
 {
-    match first_from(head, s, from, Wanted::Free(width)) {
-        Met::At { at, width: _ } => Spot::Free(at),
-        Met::End(at) => Spot::Tail(at),
+    match first_from(head, s, from, |found| !found.live && found.width == width) {
+        Ok(place) => Spot::Free(place.at),
+        Err(at) => Spot::Tail(at),
     }
 }
 
-pub fn is_place(p: Place) -> bool
-    ensures { result ≡ is_place p }
-{
-    match p {
-        Place::At { at: _, width: _ } => true,
-        Place::Nowhere => false,
-    }
-}
-
-// Whether a live record's code is that of a live record from a place on.
-fn is_repeated(head: Head, s: &[u8], from: usize, live: bool, code: usize) -> bool
+// Whether a record is live, and its code that of a live record from a place on.
+fn is_repeated(head: Head, s: &[u8], from: usize, found: Record) -> bool
     requires { Walkable head s.now from }
-    ensures { result ≡ (live && has_live code (record_list head (drop from s.now)).records) }
+    ensures { result ≡ (found.live && has_live found.code (record_list head (drop from s.now)).records) }
 {
-    if live {
-        return is_place(find_from(head, s, from, code));
-    }
-    false
+    found.live && find_from(head, s, from, found.code).is_some()
 }
 
 // Whether no two live records from a place on have one code. It looks at records' heads only; quadratic in the number of live records.
@@ -303,36 +231,17 @@ fn none_twice(head: Head, s: &[u8], from: usize) -> bool
     ensures { result ≡ none_twice (record_list head (drop from s.now)).records }
 {
     let mut at = from;
-    loop {
-        match skim_part(head, &s[at..]) {
-            Skim::Record {
-                live,
-                code,
-                width: _,
-                size,
-            } => {
-                at += size;
-                if is_repeated(head, s, at, live, code) {
-                    return false;
-                }
-            }
-            Skim::End => {
-                return true;
-            }
+    while let Some(found) = skim_part(head, &s[at..]) {
+        at += found.size;
+        if is_repeated(head, s, at, found) {
+            return false;
         }
     }
-}
-
-// One more, if it is live.
-fn one_more(n: usize, live: bool) -> usize
-    requires { n < 18446744073709551615 }
-    ensures { result ≡ n + cond live 1 0 }
-{
-    if live { n + 1 } else { n }
+    true
 }
 
 // How many records from a place on are live, if each is good and all is zero behind the last.
-fn count_records(head: Head, s: &[u8], from: usize) -> Verdict
+fn count_records(head: Head, s: &[u8], from: usize) -> Option<usize>
     requires { (head.height ≤ max_height) × (from ≤ length s.now) }
     ensures { result ≡ counted_from 0 (record_list head (drop from s.now)) }
 {
@@ -340,37 +249,28 @@ fn count_records(head: Head, s: &[u8], from: usize) -> Verdict
     let mut n: usize = 0;
     loop {
         match scan_part(head, &s[at..]) {
-            Scan::Record {
-                live,
-                code: _,
-                width: _,
-                size,
-            } => {
-                at += size;
-                n = one_more(n, live);
+            Scan::Record(found) => {
+                at += found.size;
+                n += usize::from(found.live);
             }
             Scan::End => {
-                return Verdict::Sound(n);
+                return Some(n);
             }
             Scan::Damaged => {
-                return Verdict::Broken;
+                return None;
             }
         }
     }
 }
 
-// The test of all records from a place on.
-pub fn test_records(head: Head, s: &[u8], from: usize) -> Verdict
+// The test of all records from a place on: how many are live, if all is well with them.
+pub fn test_records(head: Head, s: &[u8], from: usize) -> Option<usize>
     requires { (head.height ≤ max_height) × (from ≤ length s.now) }
     ensures { result ≡ soundness (record_list head (drop from s.now)) }
 {
-    match count_records(head, s, from) {
-        Verdict::Sound(n) => {
-            if none_twice(head, s, from) {
-                return Verdict::Sound(n);
-            }
-            Verdict::Broken
-        }
-        Verdict::Broken => Verdict::Broken,
+    let live = count_records(head, s, from)?;
+    if none_twice(head, s, from) {
+        return Some(live);
     }
+    None
 }

@@ -4,13 +4,14 @@ use mathlib.Core.Path.{◌≡◌, refl, sym, ap, ◌∙◌}
 use mathlib.Core.Bool.{Bool, true, false, cond}
 use mathlib.Core.List.{List}
 use mathlib.Core.Logic.{◌↔◌, ◌⊎◌, inl, inr, ⊎_elim}
+use Rattle.std.specs.Prelude.{Option, Some, None, Result, Ok, Err}
 use Prim.Native.Nat.{ℕ, ◌+◌, ◌≤◌, ◌<◌}
 use native.Mathlib.Omega.{arith}
 use lib.Dec.{ltb}
 use lib.IntN.{ℤ}
 use lib.ListN.{length}
 use borrow.Author.Tests.{lt-ltb, le-ltb, ltb-true, ltb-false}
-use Rattle.ground.specs.Refusals.{refusal, too_many_characters, bad_shape}
+use Rattle.ground.specs.Refusals.{refusal, number_of, too_many_characters, bad_shape}
 use Rattle.ground.specs.declared.refusals.Refusal.{Refusal}
 use Rattle.ground.proofs.Tests.{clash}
 use Rattle.ground.specs.Limits.{max_characters}
@@ -21,65 +22,64 @@ use Rattle.chars.specs.declared.Entry.{Entry}
 use Rattle.font.specs.Font.{FontReading, says, refuses, reading}
 use Rattle.font.proofs.ReadingLaws.{font_refusal}
 use Rattle.index.specs.Index.{Lists}
-use Rattle.reader.specs.declared.FontAnswer.{FontAnswer}
-use Rattle.reader.specs.declared.FontAnswer.TheVariants as font-is
-use Rattle.reader.specs.declared.Use.{Use}
-use Rattle.reader.specs.declared.Use.TheVariants.{Used, Nothing}
+use Rattle.reader.specs.declared.FontRead.{FontRead}
 use Rattle.reader.specs.Reader.{entries_of, ReadInto, used}
 use Rattle.reader.proofs.ReadLaws.{read-says, unread_refuses}
 use Rattle.request.specs.declared.Sought.{Sought}
-use Rattle.request.specs.declared.Sought.TheVariants as sought-is
-use Rattle.request.specs.declared.Requested.{Requested}
-use Rattle.request.specs.declared.Requested.TheVariants.{Row, Refused}
+use Rattle.request.specs.declared.RowPlace.{RowPlace}
 use Rattle.request.specs.Request.{in_font, sought, bad_request, row_of_sought, row_request}
 use Rattle.request.proofs.RowLaws.{used-stands}
 
--- A code is sought in the lists that were read.
-module _ (m : FontReading) (c : Code) (r : FontAnswer) (codes : List ℤ) (starts widths : List ℕ) (i : ReadInto m r codes starts widths) where
-  module _ (h : Header) (n : ℕ) (p : r ≡ font-is.Read h n) where
-    pub few : n ≤ max_characters
-    few = omega (arith, (read-says m h n (sym p ∙ i.answer)).count, i.lists.few)
+-- A row, by its place and its width.
+abbrev pub row_place : ℕ → ℕ → RowPlace
+row_place p w = record { place = p; width = w }
 
-    pub seek_read : (u : Use) → ((es : List Entry) → n ≡ length es → Lists es codes starts widths → u ≡ used c es) → in_font h.height u ≡ sought c m
+-- A code is sought in the lists that were read.
+module _ (m : FontReading) (c : Code) (r : Result FontRead Refusal) (codes : List ℤ) (starts widths : List ℕ) (i : ReadInto m r codes starts widths) where
+  module _ (x : FontRead) (p : r ≡ Ok x) where
+    pub few : x.count ≤ max_characters
+    few = omega (arith, (read-says m x (sym p ∙ i.answer)).count, i.lists.few)
+
+    pub seek_read : (u : Option Entry) → ((es : List Entry) → x.count ≡ length es → Lists es codes starts widths → u ≡ used c es) → Ok (in_font x.header.height u) ≡ sought c m
     unfolding sought
     seek_read u f =
-        let x = read-says m h n (sym p ∙ i.answer) in
-        ap (in_font h.height) (f (entries_of m) x.count i.lists) ∙ sym (ap (sought c) x.is)
+        let y = read-says m x (sym p ∙ i.answer) in
+        ap (λ (v : Option Entry). Ok (in_font x.header.height v)) (f (entries_of m) y.count i.lists) ∙ sym (ap (sought c) y.is)
 
-  pub seek_unread : (q : Refusal) → r ≡ font-is.Refused q → sought-is.Unread q ≡ sought c m
+  pub seek_unread : (q : Refusal) → r ≡ Err q → Err q ≡ sought c m
   unfolding sought
   seek_unread q p = sym (ap (sought c) (unread_refuses m q (sym p ∙ i.answer)))
 
 module _ (s : List ℕ) (c : Code) (r : ℕ) where
   -- The row request from what is sought.
-  by-sought : (x : Sought) → x ≡ sought c (reading s) → row_of_sought s r x ≡ row_request s c r
+  by-sought : (x : Result (Option Sought) Refusal) → x ≡ sought c (reading s) → row_of_sought s r x ≡ row_request s c r
   unfolding row_request
   by-sought x p = ap (row_of_sought s r) p
 
-  module _ (height : ℕ) (e : Entry) (f : sought-is.Found height e ≡ sought c (reading s)) where
-    pub row-found : r < height → (p : ℕ) → p ≡ after r s e.start → Row p e.width ≡ row_request s c r
+  module _ (x : Sought) (f : Ok (Some x) ≡ sought c (reading s)) where
+    pub row-found : r < x.height → (p : ℕ) → p ≡ after r s x.entry.start → Ok (row_place p x.entry.width) ≡ row_request s c r
     row-found h p q =
-        ap (λ (j : ℕ). Row j e.width) q ∙ sym (ap (λ (b : Bool). cond b (Row (after r s e.start) e.width) bad_request) (lt-ltb r height h)) ∙
-        by-sought (sought-is.Found height e) f
+        ap (λ (j : ℕ). Ok (row_place j x.entry.width)) q ∙
+        sym (ap (λ (b : Bool). cond b (Ok (row_place (after r s x.entry.start) x.entry.width)) bad_request) (lt-ltb r x.height h)) ∙ by-sought (Ok (Some x)) f
 
-    pub row-high : height ≤ r → (x : Requested) → x ≡ bad_request → x ≡ row_request s c r
-    row-high h x q =
-        q ∙ sym (ap (λ (b : Bool). cond b (Row (after r s e.start) e.width) bad_request) (le-ltb r height h)) ∙ by-sought (sought-is.Found height e) f
+    pub row-high : x.height ≤ r → bad_request ≡ row_request s c r
+    row-high h =
+        sym (ap (λ (b : Bool). cond b (Ok (row_place (after r s x.entry.start) x.entry.width)) bad_request) (le-ltb r x.height h)) ∙ by-sought (Ok (Some x)) f
 
-  pub row-missing : sought-is.NoDrawing ≡ sought c (reading s) → (x : Requested) → x ≡ bad_request → x ≡ row_request s c r
-  row-missing f x q = q ∙ by-sought sought-is.NoDrawing f
+  pub row-missing : Ok None ≡ sought c (reading s) → bad_request ≡ row_request s c r
+  row-missing f = by-sought (Ok None) f
 
-  pub row_unread : (q : Refusal) → sought-is.Unread q ≡ sought c (reading s) → Refused q ≡ row_request s c r
-  row_unread q f = by-sought (sought-is.Unread q) f
+  pub row_unread : (q : Refusal) → Err q ≡ sought c (reading s) → Err q ≡ row_request s c r
+  row_unread q f = by-sought (Err q) f
 
   -- 17: "a row number at or above Height, or a code with neither drawing nor stand-in".
   pub data BadRequest : Type 0 where
     high : (h : Header) (es : List Entry) → reading s ≡ says h es → h.height ≤ r → BadRequest
-    missing : (h : Header) (es : List Entry) → reading s ≡ says h es → used c es ≡ Nothing → BadRequest
+    missing : (h : Header) (es : List Entry) → reading s ≡ says h es → used c es ≡ None → BadRequest
 
   -- the same in one sentence
   abbrev pub RequestBad : Type 0
-  RequestBad = (h : Header) × (es : List Entry) × (reading s ≡ says h es) × ((h.height ≤ r) ⊎ (used c es ≡ Nothing))
+  RequestBad = (h : Header) × (es : List Entry) × (reading s ≡ says h es) × ((h.height ≤ r) ⊎ (used c es ≡ None))
 
   pub request_exactly : BadRequest ↔ RequestBad
   request_exactly = (to, λ w. ⊎_elim (high w.0 w.1 w.2) (missing w.0 w.1 w.2) w.3)
@@ -94,58 +94,59 @@ module _ (s : List ℕ) (c : Code) (r : ℕ) where
     pub entries : List Entry
     pub entry : Entry
     pub said : reading s ≡ says header entries
-    pub is-used : used c entries ≡ Used entry
+    pub is-used : used c entries ≡ Some entry
     pub below : r < header.height
     pub place : p ≡ after r s entry.start
     pub width : w ≡ entry.width
 
   -- What each answer is for.
-  data Answer (x : Requested) : Type 0 where
-    gives : (p w : ℕ) → x ≡ Row p w → Given p w → Answer x
+  data Answer (x : Result RowPlace Refusal) : Type 0 where
+    gives : (p w : ℕ) → x ≡ Ok (row_place p w) → Given p w → Answer x
     shape : x ≡ bad_request → BadRequest → Answer x
-    of_font : (q : Refusal) → x ≡ Refused q → reading s ≡ refuses q → Answer x
+    of_font : (q : Refusal) → x ≡ Err q → reading s ≡ refuses q → Answer x
 
   answer : Answer (row_request s c r)
   unfolding row_request sought
   answer = go (reading s) refl
     where
-      tall : (h : Header) (es : List Entry) → reading s ≡ says h es → (e : Entry) → used c es ≡ Used e → (b : Bool) → ltb r h.height ≡ b → Answer (cond b (Row (after r s e.start) e.width) bad_request)
+      tall : (h : Header) (es : List Entry) → reading s ≡ says h es → (e : Entry) → used c es ≡ Some e → (b : Bool) → ltb r h.height ≡ b → Answer (cond b (Ok (row_place (after r s e.start) e.width)) bad_request)
       tall h es m e u true b =
           gives (after r s e.start) e.width refl
           (record { header = h; entries = es; entry = e; said = m; is-used = u; below = ltb-true r h.height b; place = refl; width = refl })
       tall h es m e u false b = shape refl (high h es m (ltb-false r h.height b))
 
-      by : (h : Header) (es : List Entry) → reading s ≡ says h es → (u : Use) → used c es ≡ u → Answer (row_of_sought s r (in_font h.height u))
-      by h es m (Used e) u = tall h es m e u (ltb r h.height) refl
-      by h es m Nothing u = shape refl (missing h es m u)
+      by : (h : Header) (es : List Entry) → reading s ≡ says h es → (u : Option Entry) → used c es ≡ u → Answer (row_of_sought s r (Ok (in_font h.height u)))
+      by h es m (Some e) u = tall h es m e u (ltb r h.height) refl
+      by h es m None u = shape refl (missing h es m u)
 
       go : (m : FontReading) → reading s ≡ m → Answer (row_of_sought s r (sought c m))
       go (says h es) m = by h es m (used c es) refl
       go (refuses q) m = of_font q refl m
 
   -- A row is given exactly for a row number below Height and a code that has a character.
-  pub row_only : (p w : ℕ) → row_request s c r ≡ Row p w → Given p w
+  pub row_only : (p w : ℕ) → row_request s c r ≡ Ok (row_place p w) → Given p w
   row_only p w e = go answer
     where
       go : Answer (row_request s c r) → Given p w
       go (gives a b q g) =
-          let u : a ≡ p = cc in
-          let v : b ≡ w = cc in
+          let k : row_place a b ≡ row_place p w = cc in
+          let u : a ≡ p = ap (λ (x : RowPlace). x.place) k in
+          let v : b ≡ w = ap (λ (x : RowPlace). x.width) k in
           record { header = g.header; entries = g.entries; entry = g.entry; said = g.said; is-used = g.is-used; below = g.below; place = sym u ∙ g.place; width = sym v ∙ g.width }
       go (shape q b) = clash (cc)
       go (of_font z q m) = clash (cc)
 
-  pub row_if : (p w : ℕ) → Given p w → row_request s c r ≡ Row p w
+  pub row_if : (p w : ℕ) → Given p w → row_request s c r ≡ Ok (row_place p w)
   unfolding row_request sought
   row_if p w g =
       ap (λ (m : FontReading). row_of_sought s r (sought c m)) g.said ∙
-      ap (λ (u : Use). row_of_sought s r (in_font g.header.height u)) g.is-used ∙
-      ap (λ (b : Bool). cond b (Row (after r s g.entry.start) g.entry.width) bad_request) (lt-ltb r g.header.height g.below) ∙
-      ap (λ (j : ℕ). Row j g.entry.width) (sym g.place) ∙
-      ap (Row p) (sym g.width)
+      ap (λ (u : Option Entry). row_of_sought s r (Ok (in_font g.header.height u))) g.is-used ∙
+      ap (λ (b : Bool). cond b (Ok (row_place (after r s g.entry.start) g.entry.width)) bad_request) (lt-ltb r g.header.height g.below) ∙
+      ap (λ (j : ℕ). Ok (row_place j g.entry.width)) (sym g.place) ∙
+      ap (λ (j : ℕ). Ok (row_place p j)) (sym g.width)
 
   -- It is a part of the font.
-  pub row_fits : (p w : ℕ) → row_request s c r ≡ Row p w → p + w ≤ length s
+  pub row_fits : (p w : ℕ) → row_request s c r ≡ Ok (row_place p w) → p + w ≤ length s
   row_fits p w e =
       let g = row_only p w e in
       let t = used-stands s g.header g.entries g.said g.entry c g.is-used r g.below in
@@ -154,36 +155,38 @@ module _ (s : List ℕ) (c : Code) (r : ℕ) where
   -- 17, exactly then, at 0
   bad_shape_lem : BadRequest → row_request s c r ≡ bad_request
   unfolding row_request sought
-  bad_shape_lem (missing h es m u) = ap (λ (x : FontReading). row_of_sought s r (sought c x)) m ∙ ap (λ (x : Use). row_of_sought s r (in_font h.height x)) u
+  bad_shape_lem (missing h es m u) = ap (λ (x : FontReading). row_of_sought s r (sought c x)) m ∙ ap (λ (x : Option Entry). row_of_sought s r (Ok (in_font h.height x))) u
   bad_shape_lem (high h es m k) = ap (λ (x : FontReading). row_of_sought s r (sought c x)) m ∙ go (used c es)
     where
-      go : (u : Use) → row_of_sought s r (in_font h.height u) ≡ bad_request
-      go (Used e) = ap (λ (b : Bool). cond b (Row (after r s e.start) e.width) bad_request) (le-ltb r h.height k)
-      go Nothing = refl
+      go : (u : Option Entry) → row_of_sought s r (Ok (in_font h.height u)) ≡ bad_request
+      go (Some e) = ap (λ (b : Bool). cond b (Ok (row_place (after r s e.start) e.width)) bad_request) (le-ltb r h.height k)
+      go None = refl
 
-  pub refused_17 : (p : ℕ) → row_request s c r ≡ Refused (refusal bad_shape p) ↔ ((p ≡ 0) × RequestBad)
-  refused_17 p = (λ e. to (refusal bad_shape p) refl e answer, λ w. bad_shape_lem (request_exactly.1 w.1) ∙ ap (λ (j : ℕ). Refused (refusal bad_shape j)) (sym w.0))
+  pub refused_17 : (p : ℕ) → row_request s c r ≡ Err (refusal bad_shape p) ↔ ((p ≡ 0) × RequestBad)
+  refused_17 p = (λ e. to (refusal bad_shape p) refl e answer, λ w. bad_shape_lem (request_exactly.1 w.1) ∙ ap (λ (j : ℕ). Err (refusal bad_shape j)) (sym w.0))
     where
-      to : (x : Refusal) → x.number ≡ bad_shape → row_request s c r ≡ Refused x → Answer (row_request s c r) → (x.place ≡ 0) × RequestBad
+      to : (x : Refusal) → x.reason ≡ bad_shape → row_request s c r ≡ Err x → Answer (row_request s c r) → (x.place ≡ 0) × RequestBad
       to x n e (gives a b q g) = clash (cc)
-      to x n e (shape q b) = (cc, request_exactly.0 b)
-      to x n e (of_font z q m) = let k : z.number ≡ x.number = cc in absurd (omega (arith, (font_refusal s z m).1))
+      to x n e (shape q b) = let k : refusal bad_shape 0 ≡ x = cc in (ap (λ (y : Refusal). y.place) (sym k), request_exactly.0 b)
+      to x n e (of_font z q m) =
+          let k : z ≡ x = cc in
+          absurd (omega (arith, (font_refusal s z m).1, ap number_of (ap (λ (y : Refusal). y.reason) k ∙ n)))
 
   -- the font's own refusals, exactly those of the font
-  pub refused_font : (q : Refusal) → q.number ≤ too_many_characters → row_request s c r ≡ Refused q ↔ reading s ≡ refuses q
+  pub refused_font : (q : Refusal) → number_of q.reason ≤ number_of too_many_characters → row_request s c r ≡ Err q ↔ reading s ≡ refuses q
   unfolding row_request sought
   refused_font q h = (λ e. to e answer, λ m. ap (λ (x : FontReading). row_of_sought s r (sought c x)) m)
     where
-      to : row_request s c r ≡ Refused q → Answer (row_request s c r) → reading s ≡ refuses q
+      to : row_request s c r ≡ Err q → Answer (row_request s c r) → reading s ≡ refuses q
       to e (gives a b p g) = clash (cc)
-      to e (shape p b) = let k : q.number ≡ bad_shape = cc in absurd (omega arith)
+      to e (shape p b) = let k : q ≡ refusal bad_shape 0 = cc in absurd (omega (arith, h, ap (λ (y : Refusal). number_of y.reason) k))
       to e (of_font z p m) = let y : z ≡ q = cc in m ∙ ap refuses y
 
   -- no refusal has the number 0
-  pub refused-some : (q : Refusal) → row_request s c r ≡ Refused q → 1 ≤ q.number
+  pub refused-some : (q : Refusal) → row_request s c r ≡ Err q → 1 ≤ number_of q.reason
   refused-some q e = go answer
     where
-      go : Answer (row_request s c r) → 1 ≤ q.number
+      go : Answer (row_request s c r) → 1 ≤ number_of q.reason
       go (gives a b p g) = clash (cc)
-      go (shape p b) = let k : q.number ≡ bad_shape = cc in omega arith
-      go (of_font z p m) = let k : z.number ≡ q.number = cc in omega (arith, (font_refusal s z m).0)
+      go (shape p b) = let k : q ≡ refusal bad_shape 0 = cc in omega (arith, ap (λ (y : Refusal). number_of y.reason) k)
+      go (of_font z p m) = let k : z ≡ q = cc in omega (arith, (font_refusal s z m).0, ap (λ (y : Refusal). number_of y.reason) k)

@@ -2,7 +2,7 @@
 -- Assumes nothing.
 use mathlib.Core.Path.{◌≡◌, refl, sym, ◌∙◌, ap}
 use mathlib.Core.Bool.{Bool, true, false, cond, ◌&&◌, ◌||◌, and-true}
-use mathlib.Core.Option.{Option, none, some}
+use Rattle.std.specs.Prelude.{Option, Some, None}
 use Prim.Native.Nat.{ℕ, ◌<◌}
 use native.Mathlib.Omega.{arith}
 use lib.Dec.{eqb, ltb}
@@ -18,25 +18,25 @@ use Rattle.rules.proofs.Rules.{is-some, joined_if_lem, joined_or, one_rule, two_
 
 -- ------------------------------------------------------------------ what is left of a definition by a test
 
-or_nothing : (t : Bool) (x : ℕ) → or_else (joined_if t x) none ≡ joined_if t x
+or_nothing : (t : Bool) (x : ℕ) → or_else (joined_if t x) None ≡ joined_if t x
 unfolding or_else joined_if
 or_nothing true x = refl
 or_nothing false x = refl
 
 -- the byte of a rule that has one test
-its_byte : (t : Bool) (y x : ℕ) → joined_if t y ≡ some x → y ≡ x
+its_byte : (t : Bool) (y x : ℕ) → joined_if t y ≡ Some x → y ≡ x
 unfolding joined_if
 its_byte true y x e = cc
 its_byte false y x e = clash cc
 
 -- the byte of a rule that has two, where one fails
-first_byte : (s t : Bool) (y z x : ℕ) → t ≡ false → or_else (joined_if s y) (joined_if t z) ≡ some x → y ≡ x
+first_byte : (s t : Bool) (y z x : ℕ) → t ≡ false → or_else (joined_if s y) (joined_if t z) ≡ Some x → y ≡ x
 unfolding or_else joined_if
 first_byte true t y z x f e = cc
 first_byte false true y z x f e = clash cc
 first_byte false false y z x f e = clash cc
 
-second-byte : (s t : Bool) (y z x : ℕ) → s ≡ false → or_else (joined_if s y) (joined_if t z) ≡ some x → z ≡ x
+second-byte : (s t : Bool) (y z x : ℕ) → s ≡ false → or_else (joined_if s y) (joined_if t z) ≡ Some x → z ≡ x
 unfolding or_else joined_if
 second-byte true t y z x f e = clash cc
 second-byte false true y z x f e = cc
@@ -60,32 +60,24 @@ numbered_by Hardblank = refl
 pub same_number : (p q : Rule) → rule_number p ≡ rule_number q → p ≡ q
 same_number p q e = sym (numbered_by p) ∙ (ap numbered e ∙ numbered_by q)
 
-pub no_other_number : (n : ℕ) → (n ≡ 1 → ⊥) → (n ≡ 2 → ⊥) → (n ≡ 4 → ⊥) → (n ≡ 8 → ⊥) → (n ≡ 16 → ⊥) → (p : Rule) → n ≡ rule_number p → Hardblank ≡ p
-no_other_number n a b c d e EqualCharacter q = absurd (a q)
-no_other_number n a b c d e Underscore q = absurd (b q)
-no_other_number n a b c d e Hierarchy q = absurd (c q)
-no_other_number n a b c d e OppositePair q = absurd (d q)
-no_other_number n a b c d e BigX q = absurd (e q)
-no_other_number n a b c d e Hardblank q = refl
-
 -- ------------------------------------------------------------------ a pair that a rule joins
 
 module _ (h l r : ℕ) where
   -- a rule for visible sub-characters makes the same of them whatever the hardblank is
-  visibly : (o : Option ℕ) (x : ℕ) → unless_hardblank h l r o ≡ some x → o ≡ some x
+  visibly : (o : Option ℕ) (x : ℕ) → unless_hardblank h l r o ≡ Some x → o ≡ Some x
   visibly o x = go (eqb l h) (eqb r h)
     where
-      go : (a b : Bool) → cond (a || b) none o ≡ some x → o ≡ some x
+      go : (a b : Bool) → cond (a || b) None o ≡ Some x → o ≡ Some x
       go true b e = clash cc
       go false true e = clash cc
       go false false e = e
 
-module _ (h l r x : ℕ) (p : Rule) (joins : by_rule p h l r ≡ some x) where
+module _ (h l r x : ℕ) (p : Rule) (joins : by_rule p h l r ≡ Some x) where
   -- another rule that joins the pair is the same, and makes the same of it
-  alike-byte : (q : Rule) (y : ℕ) → by_rule q h l r ≡ some y → y ≡ x
+  alike-byte : (q : Rule) (y : ℕ) → by_rule q h l r ≡ Some y → y ≡ x
   alike-byte q y e =
       let same : q ≡ p = one_rule h l r q p y x e joins in
-      let value : some y ≡ some x = sym e ∙ (ap (λ (t : Rule). by_rule t h l r) same ∙ joins) in
+      let value : Some y ≡ Some x = sym e ∙ (ap (λ (t : Rule). by_rule t h l r) same ∙ joins) in
       cc
 
   -- equal sub-characters give themselves, as two hardblanks do
@@ -98,7 +90,7 @@ module _ (h l r x : ℕ) (p : Rule) (joins : by_rule p h l r ≡ some x) where
       go false t = alike-byte EqualCharacter l (rw (t, sym (ap (λ (y : ℕ). eqb y h) e) ∙ t, eq-eqb l r e))
 
   -- an underscore yields
-  by-underscore : rule_number p ≡ 2 → underscore l r ≡ some x
+  by-underscore : rule_number p ≡ 2 → underscore l r ≡ Some x
   by-underscore n = visibly h l r (underscore l r) x (ap (λ (q : Rule). by_rule q h l r) (same_number Underscore p (sym n)) ∙ joins)
 
   left_stands : rule_number p ≡ 2 → r ≡ byte "_" → l ≡ x
@@ -122,12 +114,12 @@ module _ (h l r x : ℕ) (p : Rule) (joins : by_rule p h l r ≡ some x) where
 
 -- what rules 4, 8 and 16 make of a pair
 pub data OfMarks (l r x : ℕ) : Type 0 where
-  by-class : hierarchy l r ≡ some x → OfMarks l r x
+  by-class : hierarchy l r ≡ Some x → OfMarks l r x
   by-partner : opposite l r ≡ true → byte "|" ≡ x → OfMarks l r x
-  by_big_x : big_x l r ≡ some x → OfMarks l r x
+  by_big_x : big_x l r ≡ Some x → OfMarks l r x
 
 -- a pair of two that differ, joined by another rule than 2, is joined by one of these
-pub of_marks : (h l r x : ℕ) (p : Rule) → by_rule p h l r ≡ some x → (l ≡ r → ⊥) → (rule_number p ≡ 2 → ⊥) → OfMarks l r x
+pub of_marks : (h l r x : ℕ) (p : Rule) → by_rule p h l r ≡ Some x → (l ≡ r → ⊥) → (rule_number p ≡ 2 → ⊥) → OfMarks l r x
 unfolding equal_character opposite_pair
 of_marks h l r x EqualCharacter e differ n =
     absurd (differ (eqb-true l r (joined_if_lem (eqb l r) l (is-some _ x (visibly h l r (equal_character l r) x e)))))
@@ -170,7 +162,7 @@ unclassed : (z : ℕ) → z ≡ byte "_" → class_of z ≡ 0
 unfolding class_of
 unclassed z e = rw e
 
-module _ (h l r x : ℕ) (p : Rule) (joins : by_rule p h l r ≡ some x) (differ : l ≡ r → ⊥) where
+module _ (h l r x : ℕ) (p : Rule) (joins : by_rule p h l r ≡ Some x) (differ : l ≡ r → ⊥) where
   pub underscore_right : r ≡ byte "_" → l ≡ x
   underscore_right u = go (eqb (rule_number p) 2) refl
     where
@@ -209,7 +201,7 @@ module _ (l r x : ℕ) where
         let c = of_big_x l r (is-some _ x e) in
         absurd (never_both (opposite l r) (sym (marked.partner c.0.1 r c.0.2) ∙ t) c.1)
 
-    pub no_partners : eqb m.partner.0 r ≡ false → OfMarks l r x → big_x l r ≡ some x
+    pub no_partners : eqb m.partner.0 r ≡ false → OfMarks l r x → big_x l r ≡ Some x
     no_partners t (by-class e) = absurd ((two_classes l r (is-some _ x e)).2 same)
     no_partners t (by-partner o v) =
         let c = of_opposite l r o in
@@ -218,7 +210,7 @@ module _ (l r x : ℕ) where
 
 -- ------------------------------------------------------------------ rule 16 by its left sub-character
 
-module _ (l r x : ℕ) (e : big_x l r ≡ some x) where
+module _ (l r x : ℕ) (e : big_x l r ≡ Some x) where
   pub slash : l ≡ byte "/" → byte "|" ≡ x
   unfolding big_x or_else joined_if
   slash s =

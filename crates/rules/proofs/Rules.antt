@@ -2,7 +2,7 @@
 -- Assumes nothing.
 use mathlib.Core.Path.{◌≡◌, refl, sym, ◌∙◌, ap, subst}
 use mathlib.Core.Bool.{Bool, true, false, cond, ◌&&◌, ◌||◌, false≢true}
-use mathlib.Core.Option.{Option, none, some}
+use Rattle.std.specs.Prelude.{Option, Some, None}
 use Prim.Native.Nat.{ℕ, ◌<◌}
 use native.Mathlib.Omega.{arith}
 use lib.Dec.{eqb, ltb}
@@ -16,7 +16,7 @@ use Rattle.rules.specs.Rules.{eleven, joined_if, or_else, is_some, equal_charact
 abbrev J : Option ℕ → Type 0
 J o = is_some o ≡ true
 
-pub is-some : (o : Option ℕ) (x : ℕ) → o ≡ some x → J o
+pub is-some : (o : Option ℕ) (x : ℕ) → o ≡ Some x → J o
 unfolding is_some
 is-some o x e = rw e
 
@@ -27,8 +27,8 @@ joined_if_lem false x e = e
 
 pub joined_or {ℓ} : {X : Type ℓ} (a b : Option ℕ) → J (or_else a b) → (J a → X) → (J b → X) → X
 unfolding or_else is_some
-joined_or (some x) b e f g = f refl
-joined_or none b e f g = g e
+joined_or (Some x) b e f g = f refl
+joined_or None b e f g = g e
 
 -- ------------------------------------------------------------------ no pair is joined by two rules
 
@@ -132,7 +132,7 @@ module _ (h l r : ℕ) where
   unfolding only is_some
   visible_only rule j f = go (eqb l h) (eqb r h)
     where
-      go : (a b : Bool) → J (cond (a || b) none j) → rule ≡ cond a Hardblank (only_visible l r)
+      go : (a b : Bool) → J (cond (a || b) None j) → rule ≡ cond a Hardblank (only_visible l r)
       go true b e = absurd (false≢true e)
       go false true e = absurd (false≢true e)
       go false false e = f e
@@ -147,5 +147,5 @@ module _ (h l r : ℕ) where
   joined_by_only Hardblank = λ e. rw (and_left (eqb l h) (eqb r h) (joined_if_lem (eqb l h && eqb r h) h e))
 
   -- "No pair is joined by two rules", whatever the hardblank is.
-  pub one_rule : (p q : Rule) (x y : ℕ) → by_rule p h l r ≡ some x → by_rule q h l r ≡ some y → p ≡ q
+  pub one_rule : (p q : Rule) (x y : ℕ) → by_rule p h l r ≡ Some x → by_rule q h l r ≡ Some y → p ≡ q
   one_rule p q x y a b = joined_by_only p (is-some _ x a) ∙ sym (joined_by_only q (is-some _ y b))

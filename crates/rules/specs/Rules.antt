@@ -1,25 +1,24 @@
 -- What each rule of controlled smushing makes of a pair of facing sub-characters: document 01, "Layouts".
 -- Assumes nothing.
-use Rattle.std.specs.Prelude.{ℕ, suc, Bool, true, false, cond, ◌&&◌, ◌||◌, List, [], ◌∷◌, eqb, ltb}
+use Rattle.std.specs.Prelude.{ℕ, suc, Bool, true, false, cond, ◌&&◌, ◌||◌, List, [], ◌∷◌, eqb, ltb, Option, Some, None}
 use Prim.Native.String.{String}
-use Rattle.std.proofs.Math.Option.{Option, none, some}
 use Rattle.ground.specs.Text.{byte, bytes, among, same}
 use Rattle.rules.specs.declared.Rule.{Rule}
 use Rattle.rules.specs.declared.Rule.TheVariants.{EqualCharacter, Underscore, Hierarchy, OppositePair, BigX, Hardblank}
 
 -- What a rule makes of a pair, l on the left of r on the screen: the byte where the test holds, else nothing.
 unfoldable pub joined_if : Bool → ℕ → Option ℕ
-joined_if t x = cond t (some x) none
+joined_if t x = cond t (Some x) None
 
 -- The first of two that is something.
 unfoldable pub or_else : Option ℕ → Option ℕ → Option ℕ
-or_else (some x) o = some x
-or_else none o = o
+or_else (Some x) o = Some x
+or_else None o = o
 
 -- Whether there is something.
 unfoldable pub is_some : Option ℕ → Bool
-is_some (some x) = true
-is_some none = false
+is_some (Some x) = true
+is_some None = false
 
 -- "1: equal pairs give themselves."
 unfoldable pub equal_character : ℕ → ℕ → Option ℕ
@@ -75,7 +74,7 @@ big_x l r =
 
 -- "Hardblanks taking part only in the last": h is the hardblank.
 abbrev pub unless_hardblank : ℕ → ℕ → ℕ → Option ℕ → Option ℕ
-unless_hardblank h l r o = cond (eqb l h || eqb r h) none o
+unless_hardblank h l r o = cond (eqb l h || eqb r h) None o
 
 -- What one rule makes of a pair without a blank. "32: two hardblanks give one."
 abbrev pub by_rule : Rule → ℕ → ℕ → ℕ → Option ℕ

@@ -1,15 +1,14 @@
 // The rules of controlled smushing, and what the one that joins a pair makes of it.
 #![tactic(auto)]
 
-ghost use Rattle.std.specs.Prelude.{◌≡◌, ℕ};
-ghost use Rattle.std.proofs.Math.Option.{some};
+ghost use Rattle.std.specs.Prelude.{◌≡◌, ℕ, Some};
 ghost use Rattle.rules.specs.Rules.{by_rule, rule_number};
 ghost use Rattle.rules.specs.Marks.{Marked};
 
 use subchars::SubCharacter;
 
 // The rules of controlled smushing, by the standard's names.
-#[derive(Clone, Copy)]
+#[derive(Clone, Copy, PartialEq, Eq)]
 pub enum Rule {
     EqualCharacter,
     Underscore,
@@ -20,7 +19,7 @@ pub enum Rule {
 }
 
 // A sub-character of one of the six classes of rule 4, counted from 1, and its partner under rule 8 (NUL where it has none).
-#[derive(Clone, Copy)]
+#[derive(Clone, Copy, PartialEq, Eq)]
 pub struct Mark {
     pub sub_character: SubCharacter,
     pub class: u8,
@@ -89,6 +88,7 @@ const MARKS: [Mark; 11] = [
 ];
 
 // The table's entry of a sub-character; class 0 where it has none.
+#[tactic(auto, using(crate::proofs::Table::not_marked))]
 fn mark_of(x: SubCharacter) -> Mark
     ensures { Marked x.0 result }
 {
@@ -133,7 +133,7 @@ impl Rule {
 // What rule 4, 8 or 16 makes of a pair that it joins.
 fn marks_byte(left: SubCharacter, right: SubCharacter) -> SubCharacter
     requires { left.0 ≡ right.0 → ⊥ }
-    ensures { (h x : ℕ) (p : Rule) → by_rule p h left.0 right.0 ≡ some x → (rule_number p ≡ 2 → ⊥) → result.0 ≡ x }
+    ensures { (h x : ℕ) (p : Rule) → by_rule p h left.0 right.0 ≡ Some x → (rule_number p ≡ 2 → ⊥) → result.0 ≡ x }
 {
     let a = mark_of(left);
     let b = mark_of(right);
@@ -143,7 +143,7 @@ fn marks_byte(left: SubCharacter, right: SubCharacter) -> SubCharacter
     if b.class < a.class {
         return left;
     }
-    if a.partner.0 == right.0 {
+    if a.partner == right {
         return SubCharacter(b'|');
     }
     if left.0 == b'/' {
@@ -156,10 +156,11 @@ fn marks_byte(left: SubCharacter, right: SubCharacter) -> SubCharacter
 }
 
 // What the rule that joins a pair makes of it. No pair is joined by two.
+#[tactic(auto, using(crate::proofs::Deciding::of_equal, crate::proofs::Deciding::underscore_right, crate::proofs::Deciding::underscore_left, crate::proofs::Deciding::no_underscore))]
 pub fn ruled_byte(left: SubCharacter, right: SubCharacter) -> SubCharacter
-    ensures { (h x : ℕ) (p : Rule) → by_rule p h left.0 right.0 ≡ some x → result.0 ≡ x }
+    ensures { (h x : ℕ) (p : Rule) → by_rule p h left.0 right.0 ≡ Some x → result.0 ≡ x }
 {
-    if left.0 == right.0 {
+    if left == right {
         return left;
     }
     if right.0 == b'_' {

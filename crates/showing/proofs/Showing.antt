@@ -21,8 +21,7 @@ use Rattle.subchars.specs.Hardblank.{blanked}
 use Rattle.blocks.specs.Block.{Block, rows_of}
 use Rattle.blocks.proofs.Rows.{length-rows, rows_cong, rows-at}
 use Rattle.blocks.specs.Writing.{Like}
-use Rattle.showing.specs.declared.PutAnswer.{PutAnswer}
-use Rattle.showing.specs.declared.PutAnswer.TheVariants.{Put, Refused}
+use Rattle.std.specs.Prelude.{Result, Ok, Err}
 use Rattle.showing.specs.Output.{with_lf, shown_at, shown, output_of, put_only, output_bytes}
 use Rattle.showing.specs.Scratch.{line_start}
 
@@ -38,32 +37,32 @@ pub end-shown : (hardblank w : ℕ) (row : ℕ → ℕ) → 10 ≡ with_lf hardb
 end-shown hardblank w row = let t = le-ltb w w (omega arith) in rw t
 
 module _ (hardblank h : ℕ) (l : Block) (room : ℕ) where
-  pub too_wide : max_line_width < l.width → Refused (refusal line_too_wide 0) ≡ output_of h l room
+  pub too_wide : max_line_width < l.width → Err (refusal line_too_wide 0) ≡ output_of h l room
   unfolding output_of
   too_wide u = rw (lt-ltb max_line_width l.width u)
 
   module _ (narrow : l.width ≤ max_line_width) where
-    pub no_room : room < h * (l.width + 1) → Refused (refusal area_too_small 0) ≡ output_of h l room
+    pub no_room : room < h * (l.width + 1) → Err (refusal area_too_small 0) ≡ output_of h l room
     unfolding output_of
     no_room v = rw (le-ltb max_line_width l.width narrow, lt-ltb room (h * (l.width + 1)) v)
 
-    pub drawn : h * (l.width + 1) ≤ room → Put l.width ≡ output_of h l room
+    pub drawn : h * (l.width + 1) ≤ room → Ok l.width ≡ output_of h l room
     unfolding output_of
     drawn v = rw (le-ltb max_line_width l.width narrow, le-ltb room (h * (l.width + 1)) v)
 
   -- a refusal leaves zeros
-  pub no_bytes : (r : Refusal) → Refused r ≡ output_of h l room → zeros room ≡ padded (output_bytes hardblank h l room) room
+  pub no_bytes : (r : Refusal) → Err r ≡ output_of h l room → zeros room ≡ padded (output_bytes hardblank h l room) room
   unfolding output_bytes
   no_bytes r e =
       let z : room ≡ room - 0 = omega arith in
-      ap zeros z ∙ ap (λ (o : PutAnswer). padded (put_only o (shown hardblank h l)) room) e
+      ap zeros z ∙ ap (λ (o : Result ℕ Refusal). padded (put_only o (shown hardblank h l)) room) e
 
   -- the rows written, and zeros behind them
-  pub bytes_of : Put l.width ≡ output_of h l room → (area : List ℕ) → length area ≡ room → take (h * (l.width + 1)) area ≡ rows_of (shown_at hardblank l) h (l.width + 1) → take (h * (l.width + 1)) area ++ zeros (length area - h * (l.width + 1)) ≡ padded (output_bytes hardblank h l room) room
+  pub bytes_of : Ok l.width ≡ output_of h l room → (area : List ℕ) → length area ≡ room → take (h * (l.width + 1)) area ≡ rows_of (shown_at hardblank l) h (l.width + 1) → take (h * (l.width + 1)) area ++ zeros (length area - h * (l.width + 1)) ≡ padded (output_bytes hardblank h l room) room
   unfolding output_bytes shown
   bytes_of e area k f =
       padded_of (rows_of (shown_at hardblank l) h (l.width + 1)) area (h * (l.width + 1)) room f (length-rows (shown_at hardblank l) h (l.width + 1)) k
-      ∙ ap (λ (o : PutAnswer). padded (put_only o (shown hardblank h l)) room) e
+      ∙ ap (λ (o : Result ℕ Refusal). padded (put_only o (shown hardblank h l)) room) e
 
 -- "The output is each row with hardblanks as blanks, then LF": byte r * (width + 1) + k is sub-character k of row r,
 pub shown-byte : (hardblank h : ℕ) (l : Block) (r k : ℕ) → r < h → k < l.width → get_or (shown hardblank h l) (r * (l.width + 1) + k) 0 ≡ blanked hardblank (l.cells r k)
@@ -95,7 +94,7 @@ module _ (h : ℕ) (l z : Block) (like : Like h l z) where
   pub output-like : (room : ℕ) → output_of h l room ≡ output_of h z room
   unfolding output_of
   output-like room =
-      ap (λ (w : ℕ). cond (ltb max_line_width w) (Refused (refusal line_too_wide 0)) (cond (ltb room (h * (w + 1))) (Refused (refusal area_too_small 0)) (Put w))) like.width
+      ap (λ (w : ℕ). cond (ltb max_line_width w) (Err (refusal line_too_wide 0)) (cond (ltb room (h * (w + 1))) (Err (refusal area_too_small 0)) (Ok w))) like.width
 
   pub bytes-like : (hardblank room : ℕ) → output_bytes hardblank h l room ≡ output_bytes hardblank h z room
   unfolding output_bytes

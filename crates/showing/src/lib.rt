@@ -1,7 +1,7 @@
 // A line put out: its rows, each with LF behind it, or a refusal.
 #![tactic(auto)]
 
-ghost use Rattle.std.specs.Prelude.{◌≡◌, ◌++◌, ℕ, ◌+◌, ◌*◌, ◌≤◌, length, take};
+ghost use Rattle.std.specs.Prelude.{◌≡◌, Err, ◌++◌, ℕ, ◌+◌, ◌*◌, ◌≤◌, length, take};
 ghost use Rattle.ground.specs.Area.{values, zeros, padded};
 ghost use Rattle.ground.specs.Limits.{max_line_width, max_height, min_scratch};
 ghost use Rattle.ground.specs.Refusals.{refusal};
@@ -10,16 +10,9 @@ ghost use Rattle.blocks.specs.Writing.{from_on};
 ghost use Rattle.showing.specs.Output.{with_lf, output_of, output_bytes};
 ghost use Rattle.showing.specs.Scratch.{line_start, scratch_line};
 
-use ground::refusals::Refusal;
-use ground::{limits, refusals};
+use ground::limits;
+use ground::refusals::{Reason, Refusal};
 use subchars::{Direction, Mode, SubCharacter};
-
-// What putting out a line answers: its width, or a refusal.
-#[derive(Clone, Copy)]
-pub enum PutAnswer {
-    Put(usize),
-    Refused(Refusal),
-}
 
 // Writes one row at out[at..], hardblanks as blanks, and LF behind it.
 fn show_row(out: &mut [u8], at: usize, area: &[u8], from: usize, w: usize, hardblank: SubCharacter)
@@ -76,29 +69,35 @@ pub fn line_start(direction: Direction, w: usize) -> usize
 }
 
 // A refusal of the output, with zeros all through it.
-fn refuse(number: usize, out: &mut [u8]) -> PutAnswer
-    ensures { (result ≡ PutAnswer.Refused (refusal number 0)) × (out.new ≡ zeros (length out.old)) }
+fn refuse(reason: Reason, out: &mut [u8]) -> Result<usize, Refusal>
+    ensures { (result ≡ Err (refusal reason 0)) × (out.new ≡ zeros (length out.old)) }
 {
     ground::zero_from(out, 0);
-    PutAnswer::Refused(Refusal { number, place: 0 })
+    Err(Refusal::of(reason))
 }
 
-// Puts out the line w wide that the area holds, or refuses: 16 for a line over 1,000 columns, then 9 for too little room.
-pub fn put_out(out: &mut [u8], area: &[u8], mode: Mode, w: usize, h: usize) -> PutAnswer
+// Puts out the line w wide that the area holds and answers its width, or refuses: 16 for a line over 1,000 columns, then 9 for too little room.
+pub fn put_out(
+    out: &mut [u8],
+    area: &[u8],
+    mode: Mode,
+    w: usize,
+    h: usize,
+) -> Result<usize, Refusal>
     requires { (h ≤ max_height) × (min_scratch ≤ length area.now) }
     ensures value { result ≡ output_of h (scratch_line mode.direction w area.now) (length out.old) }
     ensures out_after { out.new ≡ padded (output_bytes mode.hardblank.0 h (scratch_line mode.direction w area.now) (length out.old)) (length out.old) }
 {
     if limits::MAX_LINE_WIDTH < w {
-        return refuse(refusals::LINE_TOO_WIDE, out);
+        return refuse(Reason::LineTooWide, out);
     }
     let need = h * (w + 1);
     if out.len() < need {
-        return refuse(refusals::AREA_TOO_SMALL, out);
+        return refuse(Reason::AreaTooSmall, out);
     }
     let direction = mode.direction;
     let hardblank = mode.hardblank;
     show_rows(out, area, line_start(direction, w), w, hardblank, h);
     ground::zero_from(out, need);
-    PutAnswer::Put(w)
+    Ok(w)
 }

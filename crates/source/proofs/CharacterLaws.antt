@@ -16,8 +16,7 @@ use Rattle.font.specs.Font.{format}
 use Rattle.font.proofs.ReadingLaws.{font_read}
 use Rattle.index.specs.Index.{CharacterRoom, Lists}
 use Rattle.index.specs.Latest.{Latest}
-use Rattle.reader.specs.declared.Use.{Use}
-use Rattle.reader.specs.declared.Use.TheVariants.{Used, Nothing}
+use Rattle.std.specs.Prelude.{Option, Some, None, is_some}
 use Rattle.reader.specs.Reader.{entry_at, used, looked_up}
 use Rattle.reader.proofs.UseLaws.{used-at}
 use Rattle.reader.proofs.ThreeLaws.{own_found, other_stood_in, unused_nothing, used-zero}
@@ -56,7 +55,7 @@ module _ (s : List ℕ) (h : Header) (count : ℕ) (codes : List ℤ) (starts wi
   some-rows : 0 < h.height
   some-rows = (font_read s h held.characters held.said).high.0
 
-  pub entry-stands : (e : Entry) (k : ℕ) → entry_at held.characters k ≡ Used e → Stands s e h.height
+  pub entry-stands : (e : Entry) (k : ℕ) → entry_at held.characters k ≡ Some e → Stands s e h.height
   entry-stands e k p =
       let f = font_read s h held.characters held.said in
       record {
@@ -70,7 +69,7 @@ module _ (s : List ℕ) (h : Header) (count : ℕ) (codes : List ℤ) (starts wi
       stands : (r : ℕ) → r < h.height → RowStands (format h) s e.width (after r s e.start)
       stands r l = row-stands s h held.characters held.said e k p r l
 
-  font_choice : (c : Code) (e : Entry) → Used e ≡ used c held.characters → as_own (same_code e.code c) (character_of s e) ≡ font_source s held.characters c
+  font_choice : (c : Code) (e : Entry) → Some e ≡ used c held.characters → as_own (same_code e.code c) (character_of s e) ≡ font_source s held.characters c
   unfolding font_source
   font_choice c e u = go (same_code e.code c) refl
     where
@@ -78,7 +77,7 @@ module _ (s : List ℕ) (h : Header) (count : ℕ) (codes : List ℤ) (starts wi
       go true q = sym (ap (choice_of s) (own_found c held.characters e (sym u) q))
       go false q = sym (ap (choice_of s) (other_stood_in c held.characters e (sym u) q))
 
-  font_nothing : (c : Code) → Nothing ≡ used c held.characters → nothing ≡ font_source s held.characters c
+  font_nothing : (c : Code) → None ≡ used c held.characters → nothing ≡ font_source s held.characters c
   unfolding font_source
   font_nothing c u = sym (ap (choice_of s) (unused_nothing c held.characters (sym u)))
 
@@ -91,30 +90,34 @@ module _ (source : Source) (s : List ℕ) (height count : ℕ) (codes : List ℤ
   font_room = (g.held.long, g.held.latest)
 
   -- what is found in the lists for a code
-  abbrev pub Looked : Code → Use → Type 0
+  abbrev pub Looked : Code → Option Entry → Type 0
   Looked c x = (es : List Entry) → count ≡ length es → Lists es codes starts widths → x ≡ used c es
 
-  its : (c : Code) (x : Use) → Looked c x → x ≡ used c g.held.characters
+  its : (c : Code) (x : Option Entry) → Looked c x → x ≡ used c g.held.characters
   its c x looked = looked g.held.characters g.held.count g.held.lists
 
-  module _ (c : Code) (x : Entry) (looked : Looked c (Used x)) where
+  module _ (c : Code) (x : Entry) (looked : Looked c (Some x)) where
     pub given-stands : Stands s x height
     given-stands =
-        let k = used-at c g.held.characters x (sym (its c (Used x) looked)) in
+        let k = used-at c g.held.characters x (sym (its c (Some x) looked)) in
         rw g.high (entry-stands s g.header count codes starts widths places g.held x k.0 k.1)
 
     pub given_choice : as_own (same_code x.code c) (character_of s x) ≡ source c
-    given_choice = rw g.is (font_choice s g.header count codes starts widths places g.held c x (its c (Used x) looked))
+    given_choice = rw g.is (font_choice s g.header count codes starts widths places g.held c x (its c (Some x) looked))
 
-  pub given_nothing : (c : Code) → Looked c Nothing → (at : List ℕ) → ChosenAs s at height chosen.Nothing (source c)
-  given_nothing c looked at = rw (g.is, sym (font_nothing s g.header count codes starts widths places g.held c (its c Nothing looked))) tt
+  pub given_nothing : (c : Code) → Looked c None → (at : List ℕ) → ChosenAs s at height chosen.Nothing (source c)
+  given_nothing c looked at = rw (g.is, sym (font_nothing s g.header count codes starts widths places g.held c (its c None looked))) tt
 
   -- one that has a code 0 leaves nothing out, and one that has none stands in for nothing
-  pub given_stands_in : (x : Entry) → Looked (code (pos 0)) (Used x) → StandsIn true source
-  given_stands_in x looked cs = rw g.is (with_code_0 s g.held.characters x (sym (its (code (pos 0)) (Used x) looked ∙ used-zero g.held.characters)) cs)
+  pub given_stands_in : (x : Entry) → Looked (code (pos 0)) (Some x) → StandsIn true source
+  given_stands_in x looked cs = rw g.is (with_code_0 s g.held.characters x (sym (its (code (pos 0)) (Some x) looked ∙ used-zero g.held.characters)) cs)
 
-  pub given_leaves_out : Looked (code (pos 0)) Nothing → StandsIn false source
-  given_leaves_out looked cs = rw g.is (without_code_0 s g.held.characters (sym (its (code (pos 0)) Nothing looked ∙ used-zero g.held.characters)) cs)
+  pub given_leaves_out : Looked (code (pos 0)) None → StandsIn false source
+  given_leaves_out looked cs = rw g.is (without_code_0 s g.held.characters (sym (its (code (pos 0)) None looked ∙ used-zero g.held.characters)) cs)
+
+  pub given_stands : (x : Option Entry) → Looked (code (pos 0)) x → StandsIn (is_some x) source
+  given_stands (Some x) looked = given_stands_in x looked
+  given_stands None looked = given_leaves_out looked
 
 -- Every source that is given has 1 to 32 rows.
 high-by : (source : Source) (s t : List ℕ) (height : ℕ) (origin : Origin) (codes : List ℤ) (starts widths places : List ℕ) → GivesBy source s t height origin codes starts widths places → (0 < height) × (height ≤ max_height)

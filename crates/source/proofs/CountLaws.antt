@@ -11,8 +11,7 @@ use lib.IntN.{pos}
 use lib.ListN.{length}
 use Rattle.subchars.specs.declared.Code.{Code}
 use Rattle.chars.specs.declared.Entry.{Entry}
-use Rattle.reader.specs.declared.Use.{Use}
-use Rattle.reader.specs.declared.Use.TheVariants as use-is
+use Rattle.std.specs.Prelude.{Option, Some, None}
 use Rattle.reader.specs.Reader.{last_of, which_of, looked_up}
 use Rattle.source.specs.declared.Chosen.{Chosen}
 use Rattle.source.specs.declared.Chosen.TheVariants as chosen
@@ -116,32 +115,32 @@ module _ (source : Source) where
 
 -- Of a font's text at most one of the two counts is not 0: a font has a code 0, which stands in for all that it lacks, or has none.
 module _ (s : List ℕ) (es : List Entry) where
-  abbrev zeroth : Use
+  abbrev zeroth : Option Entry
   zeroth = last_of (pos 0) es
 
-  no_stand_in : (own : Use) → is_stood_in (choice_of s (which_of own use-is.Nothing)) ≡ false
-  no_stand_in (use-is.Used e) = refl
-  no_stand_in use-is.Nothing = refl
+  no_stand_in : (own : Option Entry) → is_stood_in (choice_of s (which_of own None)) ≡ false
+  no_stand_in (Some e) = refl
+  no_stand_in None = refl
 
-  no_gap : (own : Use) (e : Entry) → is_nothing (choice_of s (which_of own (use-is.Used e))) ≡ false
-  no_gap (use-is.Used d) e = refl
-  no_gap use-is.Nothing e = refl
+  no_gap : (own : Option Entry) (e : Entry) → is_nothing (choice_of s (which_of own (Some e))) ≡ false
+  no_gap (Some d) e = refl
+  no_gap None e = refl
 
-  pub without_code_0 : zeroth ≡ use-is.Nothing → (cs : List Code) → how_many is_stood_in (font_source s es) cs ≡ 0
+  pub without_code_0 : zeroth ≡ None → (cs : List Code) → how_many is_stood_in (font_source s es) cs ≡ 0
   unfolding font_source looked_up
-  without_code_0 p = none_of (font_source s es) is_stood_in (λ c. ap (λ (z : Use). is_stood_in (choice_of s (which_of (last_of c.0 es) z))) p ∙ no_stand_in (last_of c.0 es))
+  without_code_0 p = none_of (font_source s es) is_stood_in (λ c. ap (λ (z : Option Entry). is_stood_in (choice_of s (which_of (last_of c.0 es) z))) p ∙ no_stand_in (last_of c.0 es))
 
-  pub with_code_0 : (e : Entry) → zeroth ≡ use-is.Used e → (cs : List Code) → how_many is_nothing (font_source s es) cs ≡ 0
+  pub with_code_0 : (e : Entry) → zeroth ≡ Some e → (cs : List Code) → how_many is_nothing (font_source s es) cs ≡ 0
   unfolding font_source looked_up
-  with_code_0 e p = none_of (font_source s es) is_nothing (λ c. ap (λ (z : Use). is_nothing (choice_of s (which_of (last_of c.0 es) z))) p ∙ no_gap (last_of c.0 es) e)
+  with_code_0 e p = none_of (font_source s es) is_nothing (λ c. ap (λ (z : Option Entry). is_nothing (choice_of s (which_of (last_of c.0 es) z))) p ∙ no_gap (last_of c.0 es) e)
 
   pub never_both : (cs : List Code) → ((counts_of (font_source s es) cs).stood_in ≡ 0) ⊎ ((counts_of (font_source s es) cs).nothing_drawn ≡ 0)
   unfolding counts_of
   never_both cs = go zeroth refl
     where
-      go : (z : Use) → zeroth ≡ z → (how_many is_stood_in (font_source s es) cs ≡ 0) ⊎ (how_many is_nothing (font_source s es) cs ≡ 0)
-      go use-is.Nothing p = inl (without_code_0 p cs)
-      go (use-is.Used e) p = inr (with_code_0 e p cs)
+      go : (z : Option Entry) → zeroth ≡ z → (how_many is_stood_in (font_source s es) cs ≡ 0) ⊎ (how_many is_nothing (font_source s es) cs ≡ 0)
+      go None p = inl (without_code_0 p cs)
+      go (Some e) p = inr (with_code_0 e p cs)
 
 -- The same of a pack's text: a pack has a letter with code 0, or has none.
 module _ (f : Head) (rs : List (List ℕ)) where

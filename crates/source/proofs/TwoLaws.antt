@@ -8,8 +8,7 @@ use lib.IntN.{ℤ, pos}
 use Rattle.subchars.specs.declared.Code.{Code}
 use Rattle.chars.specs.declared.Entry.{Entry}
 use Rattle.chars.specs.Codes.{code}
-use Rattle.reader.specs.declared.Use.{Use}
-use Rattle.reader.specs.declared.Use.TheVariants as last
+use Rattle.std.specs.Prelude.{Option, Some, None}
 use Rattle.reader.specs.Reader.{entry_at, last_of}
 use Rattle.reader.proofs.ThreeLaws.{last-same}
 use Rattle.fontlists.specs.declared.two.Which.{Which}
@@ -31,14 +30,14 @@ characters_in Second es fs = fs
 
 -- An entry that was looked up is one of its font's.
 abbrev pub Among : List Entry → Entry → Type 0
-Among es e = (k : ℕ) × (entry_at es k ≡ last.Used e)
+Among es e = (k : ℕ) × (entry_at es k ≡ Some e)
 
 abbrev pub AmongTwo : List Entry → List Entry → LookedUpInTwo → Type 0
 AmongTwo es fs (Found w e) = Among (characters_in w es fs) e
 AmongTwo es fs (StoodIn w e) = Among (characters_in w es fs) e
 AmongTwo es fs Nothing = Unit
 
-among : (z : ℤ) (es : List Entry) (e : Entry) → last_of z es ≡ last.Used e → Among es e
+among : (z : ℤ) (es : List Entry) (e : Entry) → last_of z es ≡ Some e → Among es e
 among z es e p = let l = last-same z es e p in (l.0, l.1)
 
 module _ (c : Code) (es fs : List Entry) where
@@ -46,12 +45,12 @@ module _ (c : Code) (es fs : List Entry) where
   unfolding looked_up_in_two
   among_two = go (last_of c.0 es) refl (last_of c.0 fs) refl (last_of (pos 0) es) refl (last_of (pos 0) fs) refl
     where
-      go : (a : Use) → last_of c.0 es ≡ a → (b : Use) → last_of c.0 fs ≡ b → (z : Use) → last_of (pos 0) es ≡ z → (w : Use) → last_of (pos 0) fs ≡ w → AmongTwo es fs (first_try a b z w)
-      go (last.Used e) p b q z r w t = among c.0 es e p
-      go last.Nothing p (last.Used e) q z r w t = among c.0 fs e q
-      go last.Nothing p last.Nothing q (last.Used e) r w t = among (pos 0) es e r
-      go last.Nothing p last.Nothing q last.Nothing r (last.Used e) t = among (pos 0) fs e t
-      go last.Nothing p last.Nothing q last.Nothing r last.Nothing t = tt
+      go : (a : Option Entry) → last_of c.0 es ≡ a → (b : Option Entry) → last_of c.0 fs ≡ b → (z : Option Entry) → last_of (pos 0) es ≡ z → (w : Option Entry) → last_of (pos 0) fs ≡ w → AmongTwo es fs (first_try a b z w)
+      go (Some e) p b q z r w t = among c.0 es e p
+      go None p (Some e) q z r w t = among c.0 fs e q
+      go None p None q (Some e) r w t = among (pos 0) es e r
+      go None p None q None r (Some e) t = among (pos 0) fs e t
+      go None p None q None r None t = tt
 
 -- So its rows stand in the bytes of that font, and it is what the two fonts have for the code.
 module _ (source : Source) (s t : List ℕ) (height n m : ℕ) (codes : List ℤ) (starts widths places : List ℕ) (g : TwoGives source s t height n m codes starts widths places) where
@@ -94,29 +93,29 @@ is_there (StoodIn w e) = true
 is_there Nothing = false
 
 module _ (s t : List ℕ) (es fs : List Entry) where
-  no_gap_first : (a b w : Use) (d : Entry) → is_nothing (choice_of_two s t (first_try a b (last.Used d) w)) ≡ false
-  no_gap_first (last.Used e) b w d = refl
-  no_gap_first last.Nothing (last.Used f) w d = refl
-  no_gap_first last.Nothing last.Nothing w d = refl
+  no_gap_first : (a b w : Option Entry) (d : Entry) → is_nothing (choice_of_two s t (first_try a b (Some d) w)) ≡ false
+  no_gap_first (Some e) b w d = refl
+  no_gap_first None (Some f) w d = refl
+  no_gap_first None None w d = refl
 
-  no_gap_second : (a b : Use) (d : Entry) → is_nothing (choice_of_two s t (first_try a b last.Nothing (last.Used d))) ≡ false
-  no_gap_second (last.Used e) b d = refl
-  no_gap_second last.Nothing (last.Used f) d = refl
-  no_gap_second last.Nothing last.Nothing d = refl
+  no_gap_second : (a b : Option Entry) (d : Entry) → is_nothing (choice_of_two s t (first_try a b None (Some d))) ≡ false
+  no_gap_second (Some e) b d = refl
+  no_gap_second None (Some f) d = refl
+  no_gap_second None None d = refl
 
-  no_stand_in : (a b : Use) → is_stood_in (choice_of_two s t (first_try a b last.Nothing last.Nothing)) ≡ false
-  no_stand_in (last.Used e) b = refl
-  no_stand_in last.Nothing (last.Used f) = refl
-  no_stand_in last.Nothing last.Nothing = refl
+  no_stand_in : (a b : Option Entry) → is_stood_in (choice_of_two s t (first_try a b None None)) ≡ false
+  no_stand_in (Some e) b = refl
+  no_stand_in None (Some f) = refl
+  no_stand_in None None = refl
 
   pub two_stand_in : StandsIn (is_there (looked_up_in_two (code (pos 0)) es fs)) (two_source s t es fs)
   unfolding looked_up_in_two two_source
   two_stand_in = go (last_of (pos 0) es) refl (last_of (pos 0) fs) refl
     where
-      go : (z : Use) → last_of (pos 0) es ≡ z → (w : Use) → last_of (pos 0) fs ≡ w → StandsIn (is_there (first_try z w z w)) (two_source s t es fs)
-      go (last.Used d) p w q = none_of (two_source s t es fs) is_nothing (λ c. ap (λ (z : Use). is_nothing (choice_of_two s t (first_try (last_of c.0 es) (last_of c.0 fs) z (last_of (pos 0) fs)))) p ∙ no_gap_first (last_of c.0 es) (last_of c.0 fs) (last_of (pos 0) fs) d)
-      go last.Nothing p (last.Used d) q = none_of (two_source s t es fs) is_nothing (λ c. (λ i. is_nothing (choice_of_two s t (first_try (last_of c.0 es) (last_of c.0 fs) (p i) (q i)))) ∙ no_gap_second (last_of c.0 es) (last_of c.0 fs) d)
-      go last.Nothing p last.Nothing q = none_of (two_source s t es fs) is_stood_in (λ c. (λ i. is_stood_in (choice_of_two s t (first_try (last_of c.0 es) (last_of c.0 fs) (p i) (q i)))) ∙ no_stand_in (last_of c.0 es) (last_of c.0 fs))
+      go : (z : Option Entry) → last_of (pos 0) es ≡ z → (w : Option Entry) → last_of (pos 0) fs ≡ w → StandsIn (is_there (first_try z w z w)) (two_source s t es fs)
+      go (Some d) p w q = none_of (two_source s t es fs) is_nothing (λ c. ap (λ (z : Option Entry). is_nothing (choice_of_two s t (first_try (last_of c.0 es) (last_of c.0 fs) z (last_of (pos 0) fs)))) p ∙ no_gap_first (last_of c.0 es) (last_of c.0 fs) (last_of (pos 0) fs) d)
+      go None p (Some d) q = none_of (two_source s t es fs) is_nothing (λ c. (λ i. is_nothing (choice_of_two s t (first_try (last_of c.0 es) (last_of c.0 fs) (p i) (q i)))) ∙ no_gap_second (last_of c.0 es) (last_of c.0 fs) d)
+      go None p None q = none_of (two_source s t es fs) is_stood_in (λ c. (λ i. is_stood_in (choice_of_two s t (first_try (last_of c.0 es) (last_of c.0 fs) (p i) (q i)))) ∙ no_stand_in (last_of c.0 es) (last_of c.0 fs))
 
 -- Whether one has a code 0 is what looking it up tells.
 pub told_stands_in : (source : Source) (s t : List ℕ) (height n m : ℕ) (codes : List ℤ) (starts widths places : List ℕ) (g : TwoGives source s t height n m codes starts widths places) (r : LookedUpInTwo) →

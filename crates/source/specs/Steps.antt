@@ -1,6 +1,6 @@
 -- The character that was chosen for a code: its width, and where its rows start in the bytes of its source; and which of two look-ups has it.
 -- Assumes nothing.
-use Rattle.std.specs.Prelude.{◌≡◌, ℕ, ◌+◌, ◌*◌, ◌<◌, ◌≤◌, Bool, true, false, List, length, take, drop, get_or}
+use Rattle.std.specs.Prelude.{◌≡◌, ℕ, ◌+◌, ◌*◌, ◌<◌, ◌≤◌, Bool, true, false, List, length, take, drop, get_or, Option, Some, None}
 use Rattle.ground.specs.Limits.{max_font_length, max_height, max_pack_length}
 use Rattle.blocks.specs.Block.{Block, exact_block}
 use Rattle.blocks.specs.Writing.{Like}
@@ -9,7 +9,6 @@ use Rattle.lines.specs.Lines.{line_end, after}
 use Rattle.chars.specs.declared.Entry.{Entry}
 use Rattle.records.specs.declared.Head.{Head}
 use Rattle.records.specs.declared.Place.{Place}
-use Rattle.records.specs.declared.Place.TheVariants.{At, Nowhere}
 use Rattle.records.specs.Versions.{record_head_length}
 use Rattle.source.specs.declared.Chosen.{Chosen}
 use Rattle.source.specs.declared.Chosen.TheVariants.{Character, Nothing}
@@ -63,12 +62,12 @@ as_own true b = found b
 as_own false b = stood_in b
 
 -- A record that starts at a place is within the bytes of a pack.
-abbrev pub PlaceIn : Head → List ℕ → Place → Type 0
-PlaceIn f s (At p w) = (0 < f.height) × (f.height ≤ max_height) × (p + (record_head_length f.version + f.height * w) ≤ length s) × (length s ≤ max_pack_length)
-PlaceIn f s Nowhere = Unit
+abbrev pub PlaceIn : Head → List ℕ → Option Place → Type 0
+PlaceIn f s (Some p) = (0 < f.height) × (f.height ≤ max_height) × (p.at + (record_head_length f.version + f.height * p.width) ≤ length s) × (length s ≤ max_pack_length)
+PlaceIn f s None = Unit
 
 -- The letter of that record as a character, which is the code's own or stands in.
-abbrev pub letter_choice : Head → List ℕ → Bool → Place → Choice
-letter_choice f s true (At p w) = found (exact_block w (take (f.height * w) (drop (p + record_head_length f.version) s)))
-letter_choice f s false (At p w) = stood_in (exact_block w (take (f.height * w) (drop (p + record_head_length f.version) s)))
-letter_choice f s own Nowhere = nothing
+abbrev pub letter_choice : Head → List ℕ → Bool → Option Place → Choice
+letter_choice f s true (Some p) = found (exact_block p.width (take (f.height * p.width) (drop (p.at + record_head_length f.version) s)))
+letter_choice f s false (Some p) = stood_in (exact_block p.width (take (f.height * p.width) (drop (p.at + record_head_length f.version) s)))
+letter_choice f s own None = nothing

@@ -15,8 +15,7 @@ ghost use Rattle.source.specs.Steps.{Standing, RowPlaces, Stands, ChosenAs, Pick
 
 use chars::Entry;
 use fontlists::two::Which;
-use lines::{Cursor, LineStep};
-use reader::Use;
+use lines::Cursor;
 use subchars::Code;
 
 // What the bytes of a source are: a font, of which the lists hold so many characters; two fonts, each in its half of the lists; or a pack.
@@ -77,10 +76,7 @@ fn font_stands_in(
     requires { (source : Source) × FontGives source font.now height count codes.now starts.now widths.now places.now }
     ensures { (source : Source) → FontGives source font.now height count codes.now starts.now widths.now places.now → StandsIn result source }
 {
-    match reader::find_known(codes, starts, widths, count, places, Code(0)) {
-        Use::Used(_) => true,
-        Use::Nothing => false,
-    }
+    reader::find_known(codes, starts, widths, count, places, Code(0)).is_some()
 }
 
 // Whether a source has a character with code 0.
@@ -157,12 +153,8 @@ fn next_place(font: &[u8], at: usize) -> usize
     }
     let cursor = Cursor { at };
     match cursor.next(font) {
-        LineStep::Line {
-            start: _,
-            end: _,
-            next,
-        } => next.at,
-        LineStep::NoLine => at,
+        Some(line) => line.next.at,
+        None => at,
     }
 }
 
@@ -212,15 +204,15 @@ fn choose_entry(
     ensures { (source : Source) → FontGives source font.now height count codes.now starts.now widths.now places.now → ChosenAs font.now found.new height result (source code) }
 {
     match reader::find_known(codes, starts, widths, count, places, code) {
-        Use::Used(entry) => {
+        Some(entry) => {
             let start = entry.start;
             let width = entry.width;
-            let own = chars::same_code(entry.code, code);
+            let own = entry.code == code;
             // As in `show_entry`, but in place: the loop that draws by one font is then laid out best.
             find_rows(font, start, width, height, found);
             Chosen::Character { width, own }
         }
-        Use::Nothing => Chosen::Nothing,
+        None => Chosen::Nothing,
     }
 }
 

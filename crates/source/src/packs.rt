@@ -13,7 +13,7 @@ ghost use Rattle.source.specs.Steps.{ChosenAs, PlaceIn, letter_choice};
 
 use crate::Chosen;
 use ground::limits;
-use records::{Head, Place, is_place, record_head_length};
+use records::{Head, Place, record_head_length};
 use subchars::Code;
 
 // What the head of a pack says.
@@ -30,31 +30,44 @@ pub(crate) fn stands_in(pack: &[u8], height: usize, starts: &[usize], widths: &[
     ensures { (source : Source) → PackGives source pack.now height starts.now widths.now → StandsIn result source }
 {
     let head = head_in(pack);
-    is_place(letters::find_letter(head, pack, starts, widths, Code(0)))
+    letters::find_letter(head, pack, starts, widths, Code(0)).is_some()
 }
 
 // The letter at a place as a character; where its rows start is written into a lent list.
-fn show_letter(head: Head, pack: &[u8], place: Place, own: bool, found: &mut [usize]) -> Chosen
+fn show_letter(
+    head: Head,
+    pack: &[u8],
+    place: Option<Place>,
+    own: bool,
+    found: &mut [usize],
+) -> Chosen
     requires place_in { PlaceIn head pack.now place }
     requires max_height_in_bounds { max_height ≤ length found.old }
     ensures { ChosenAs pack.now found.new head.height result (letter_choice head pack.now own place) }
 {
     match place {
-        Place::At { at, width } => {
-            let first = at + record_head_length(head.version);
+        Some(letter) => {
+            let first = letter.at + record_head_length(head.version);
+            let width = letter.width;
             letters::letter_rows(found, first, width, head.height);
             Chosen::Character { width, own }
         }
-        Place::Nowhere => Chosen::Nothing,
+        None => Chosen::Nothing,
     }
 }
 
 // The place of a code's own letter where it has one, else that of the letter with code 0.
-fn own_or_zeroth(head: Head, pack: &[u8], starts: &[usize], widths: &[usize], its: Place) -> Place
+fn own_or_zeroth(
+    head: Head,
+    pack: &[u8],
+    starts: &[usize],
+    widths: &[usize],
+    its: Option<Place>,
+) -> Option<Place>
     requires { LettersHeld head pack.now starts.now widths.now }
     ensures { (records : List (List ℕ)) → meaning pack.now ≡ says head records → result ≡ or_else_place its (place_in head (bits_of (pos 0)) (head_length head.version) records) }
 {
-    if is_place(its) {
+    if its.is_some() {
         return its;
     }
     letters::find_letter(head, pack, starts, widths, Code(0))
@@ -76,5 +89,5 @@ pub(crate) fn choose_letter(
     let head = head_in(pack);
     let its = letters::find_letter(head, pack, starts, widths, code);
     let place = own_or_zeroth(head, pack, starts, widths, its);
-    show_letter(head, pack, place, is_place(its), found)
+    show_letter(head, pack, place, its.is_some(), found)
 }

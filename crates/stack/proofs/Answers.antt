@@ -10,7 +10,7 @@ use lib.Dec.{ltb}
 use lib.ListN.{length}
 use borrow.Author.Tests.{lt-ltb, le-ltb, ltb-true, ltb-false, not-true, not-false}
 use Rattle.ground.specs.Limits.{max_height, max_line_width, max_stack_height}
-use Rattle.ground.specs.Refusals.{area_too_small, bad_shape, stack_too_high}
+use Rattle.ground.specs.Refusals.{number_of, area_too_small, bad_shape, stack_too_high}
 use Rattle.ground.proofs.Tests.{and_none, and_left, and_right, not_true_false, never_both, below_or_not}
 use Rattle.subchars.specs.declared.VerticalSmushing.TheVariants.{Universal, Controlled}
 use Rattle.subchars.specs.declared.VerticalLayout.{VerticalLayout}
@@ -21,9 +21,8 @@ use Rattle.vertical.proofs.GoodSets.{SumOfRules, good_sum, sum_good}
 use Rattle.blocks.specs.Block.{exact_block}
 use Rattle.join.specs.Shape.{good_block}
 use Rattle.join.proofs.GoodShape.{block_good, block_bad}
-use Rattle.stack.specs.declared.StackAnswer.TheVariants.{Stacked}
 use Rattle.columns.specs.Stack.{Stack, stacked}
-use Rattle.stack.specs.StackCall.{StackTold, stack_tells, no_stack, good_stack, fit_told, stack_of, stack_size, stack_told}
+use Rattle.stack.specs.StackCall.{StackTold, stack_tells, stacking, no_stack, good_stack, fit_told, stack_of, stack_size, stack_told}
 use Rattle.columns.proofs.Demand.{overlap_smaller}
 
 -- 17 "as in the join, but upper height to 64, both widths to 1,000 and the five rules": upper height outside 1 to 64, lower height outside 1 to 32, a
@@ -152,7 +151,7 @@ module _ (layout : VerticalLayout) (hardblank n upperWidth : ℕ) (upper : List 
       bad_shape_lem : BadStack → StacksTo (no_stack bad_shape)
       too_high : (BadStack → ⊥) → max_stack_height < result.height → StacksTo (no_stack stack_too_high)
       too_small : (BadStack → ⊥) → result.height ≤ max_stack_height → room < stack_size result → StacksTo (no_stack area_too_small)
-      stacks : (BadStack → ⊥) → result.height ≤ max_stack_height → stack_size result ≤ room → StacksTo (stack_tells (Stacked result.overlap result.height result.block.width))
+      stacks : (BadStack → ⊥) → result.height ≤ max_stack_height → stack_size result ≤ room → StacksTo (stack_tells (stacking result.overlap result.height result.block.width))
 
     -- Each of these gives its answer,
     pub gives : (t : StackTold) → StacksTo t → answer ≡ t
@@ -215,27 +214,27 @@ module _ (layout : VerticalLayout) (hardblank n upperWidth : ℕ) (upper : List 
         go _ (stacks f u v) e = absurd (omega (arith, ap number e))
 
     -- and overlap, height and width.
-    pub exactly_stacked : answer ≡ stack_tells (Stacked result.overlap result.height result.block.width) ↔ ((BadStack → ⊥) × (result.height ≤ max_stack_height) × (stack_size result ≤ room))
+    pub exactly_stacked : answer ≡ stack_tells (stacking result.overlap result.height result.block.width) ↔ ((BadStack → ⊥) × (result.height ≤ max_stack_height) × (stack_size result ≤ room))
     exactly_stacked = (go answer one_of, λ d. gives _ (stacks d.0 d.1 d.2))
       where
-        go : (t : StackTold) → StacksTo t → t ≡ stack_tells (Stacked result.overlap result.height result.block.width) → (BadStack → ⊥) × (result.height ≤ max_stack_height) × (stack_size result ≤ room)
+        go : (t : StackTold) → StacksTo t → t ≡ stack_tells (stacking result.overlap result.height result.block.width) → (BadStack → ⊥) × (result.height ≤ max_stack_height) × (stack_size result ≤ room)
         go _ (bad_shape_lem b) e = absurd (omega (arith, ap number e))
         go _ (too_high f u) e = absurd (omega (arith, ap number e))
         go _ (too_small f u v) e = absurd (omega (arith, ap number e))
         go _ (stacks f u v) e = (f, u, v)
 
     -- What a refusal tells: one of the three numbers, place 0.
-    pub refused-tells : answer.refused ≡ true → ((answer.number ≡ bad_shape) ⊎ ((answer.number ≡ stack_too_high) ⊎ (answer.number ≡ area_too_small))) × (answer.place ≡ 0)
+    pub refused-tells : answer.refused ≡ true → ((answer.number ≡ number_of bad_shape) ⊎ ((answer.number ≡ number_of stack_too_high) ⊎ (answer.number ≡ number_of area_too_small))) × (answer.place ≡ 0)
     refused-tells e = go answer one_of e
       where
-        go : (t : StackTold) → StacksTo t → t.refused ≡ true → ((t.number ≡ bad_shape) ⊎ ((t.number ≡ stack_too_high) ⊎ (t.number ≡ area_too_small))) × (t.place ≡ 0)
+        go : (t : StackTold) → StacksTo t → t.refused ≡ true → ((t.number ≡ number_of bad_shape) ⊎ ((t.number ≡ number_of stack_too_high) ⊎ (t.number ≡ number_of area_too_small))) × (t.place ≡ 0)
         go _ (bad_shape_lem b) e = (inl refl, refl)
         go _ (too_high f u) e = (inr (inl refl), refl)
         go _ (too_small f u v) e = (inr (inr refl), refl)
         go _ (stacks f u v) e = absurd (true≢false (sym e))
 
     -- The overlap is at most the lower block's greatest height; the result is at most 64 rows high and 1,000 columns wide.
-    pub stacked-within : (o h w : ℕ) → stack_tells (Stacked o h w) ≡ answer → (o ≤ max_height) × (h ≤ max_stack_height) × (w ≤ max_line_width)
+    pub stacked-within : (o h w : ℕ) → stack_tells (stacking o h w) ≡ answer → (o ≤ max_height) × (h ≤ max_stack_height) × (w ≤ max_line_width)
     unfolding stacked
     stacked-within o h w e = go answer one_of e
       where
@@ -243,7 +242,7 @@ module _ (layout : VerticalLayout) (hardblank n upperWidth : ℕ) (upper : List 
         at_most : (most k : ℕ) → (most < k → BadStack) → (BadStack → ⊥) → k ≤ most
         at_most most k over f = ⊎_elim (λ u. absurd (f (over u))) (λ u. u) (below_or_not most k)
 
-        go : (t : StackTold) → StacksTo t → stack_tells (Stacked o h w) ≡ t → (o ≤ max_height) × (h ≤ max_stack_height) × (w ≤ max_line_width)
+        go : (t : StackTold) → StacksTo t → stack_tells (stacking o h w) ≡ t → (o ≤ max_height) × (h ≤ max_stack_height) × (w ≤ max_line_width)
         go _ (bad_shape_lem b) e = absurd (true≢false (sym (ap (λ (t : StackTold). t.refused) e)))
         go _ (too_high f u) e = absurd (true≢false (sym (ap (λ (t : StackTold). t.refused) e)))
         go _ (too_small f u v) e = absurd (true≢false (sym (ap (λ (t : StackTold). t.refused) e)))

@@ -10,6 +10,7 @@ use lib.ListN.{length, replicate}
 use Rattle.ground.specs.Area.{values, zeros}
 use Rattle.ground.specs.Count.{every, reach}
 use Rattle.ground.specs.Text.{byte, bytes}
+use Rattle.ground.specs.declared.refusals.Reason.{Reason}
 use Rattle.ground.specs.Refusals.{area_too_small, bad_shape, stack_too_high}
 use Rattle.subchars.specs.declared.VerticalSmushing.TheVariants.{Universal, Controlled}
 use Rattle.subchars.specs.declared.VerticalLayout.{VerticalLayout}
@@ -21,9 +22,8 @@ use Rattle.lanes.specs.Joined.{joined_cells}
 use Rattle.vertical.specs.VerticalPair.{horizontal_line, two_bars, merge, merges, merged_byte, barred}
 use Rattle.blocks.specs.Block.{rows_of}
 use Rattle.join.specs.Shape.{good_block}
-use Rattle.stack.specs.declared.StackAnswer.TheVariants.{Stacked}
 use Rattle.columns.specs.Stack.{upright, supersmushing, columns_overlap, stack_overlap, stacked_at, stacked}
-use Rattle.stack.specs.StackCall.{StackTold, stack_tells, no_stack, good_stack, fit_told, stack_told, stack_area}
+use Rattle.stack.specs.StackCall.{StackTold, stack_tells, stacking, no_stack, good_stack, fit_told, stack_told, stack_area}
 
 -- ------------------------------------------------------------------ what an example is
 
@@ -90,21 +90,21 @@ abbrev stacks_with : Char → VerticalLayout → Lent → Lent → ℕ → Lent 
 stacks_with hardblank layout upper lower o result spare =
     record {
       asked = record { layout = layout; hardblank = byte hardblank; upper = upper; lower = lower; room = length result.rows + spare };
-      outcome = record { told = stack_tells (Stacked o result.height result.width); area = result.rows ++ zeros spare };
+      outcome = record { told = stack_tells (stacking o result.height result.width); area = result.rows ++ zeros spare };
     }
 
 abbrev stacks : VerticalLayout → Rows → Rows → ℕ → Rows → Example
 stacks layout upper lower o result = stacks_with "$" layout (block upper) (block lower) o (block result) 0
 
--- refused under a number
-abbrev refuses_with : Char → ℕ → VerticalLayout → Lent → Lent → ℕ → Example
-refuses_with hardblank number layout upper lower room =
+-- refused for a reason
+abbrev refuses_with : Char → Reason → VerticalLayout → Lent → Lent → ℕ → Example
+refuses_with hardblank reason layout upper lower room =
     record {
       asked = record { layout = layout; hardblank = byte hardblank; upper = upper; lower = lower; room = room };
-      outcome = record { told = no_stack number; area = zeros room };
+      outcome = record { told = no_stack reason; area = zeros room };
     }
 
-abbrev refuses : ℕ → VerticalLayout → Lent → Lent → ℕ → Example
+abbrev refuses : Reason → VerticalLayout → Lent → Lent → ℕ → Example
 refuses = refuses_with "$"
 
 abbrev by : ℕ → VerticalLayout

@@ -7,7 +7,6 @@ use Prim.Native.Nat.{ℕ, ◌+◌, ◌-◌, ◌*◌, max}
 use native.Mathlib.Omega.{arith}
 use native.Mathlib.Decide.{dec_lt}
 use lib.Dec.{ltb}
-use lib.ListN.{get_or}
 use borrow.Author.Tests.{le-ltb}
 use Rattle.ground.specs.Limits.{max_stack_height}
 use Rattle.ground.specs.Refusals.{area_too_small, stack_too_high}
@@ -17,15 +16,16 @@ use Rattle.subchars.specs.declared.VerticalLayout.TheVariants.{FullHeight, Fitti
 use Rattle.lanes.specs.Blocks.{Cells, Agree}
 use Rattle.lanes.specs.Overlap.{furthest, fitting, smushing}
 use Rattle.lanes.proofs.Agreeing.{furthest_cong, fitting_cong, smushing_cong, joined_cong}
-use Rattle.blocks.specs.Block.{Block, exact_block, rows_of}
+use Rattle.blocks.specs.Block.{Block, rows_of}
 use Rattle.blocks.specs.Writing.{Like}
 use Rattle.blocks.proofs.Rows.{rows_cong}
 use Rattle.vertical.specs.VerticalPair.{VerticalLine, set_has, merges, merged_byte, barred, other_rules}
-use Rattle.stack.specs.declared.StackAnswer.{StackAnswer}
-use Rattle.stack.specs.declared.StackAnswer.TheVariants.{Stacked}
+use Rattle.std.specs.Prelude.{Result}
+use Rattle.ground.specs.declared.refusals.Refusal.{Refusal}
+use Rattle.stack.specs.declared.Stacked.{Stacked}
 use Rattle.columns.specs.Stack.{upright, supersmushing, columns_overlap, wider, stack_overlap, stacked_at, Stack, stacked}
-use Rattle.columns.specs.Placing.{placed_block, with_end}
-use Rattle.stack.specs.StackCall.{StackTold, stack_tells, no_stack_if, fit_told, area_after, PutStack}
+use Rattle.columns.specs.Placing.{with_end}
+use Rattle.stack.specs.StackCall.{StackTold, stack_tells, stacking, no_stack_if, fit_told, area_after, PutStack}
 use Rattle.columns.proofs.Columns.{upright-like}
 use Rattle.columns.proofs.Demand.{overlap_smaller, ruled}
 
@@ -79,7 +79,7 @@ module _ (layout : VerticalLayout) (hardblank n : ℕ) (a a' : Block) (m : ℕ) 
 -- what is put out of a stack
 module _ (s t : Stack) (like : StackLike s t) (end room : ℕ) where
   abbrev told_by : ℕ → ℕ → ℕ → StackTold
-  told_by o h w = no_stack_if (ltb max_stack_height h) stack_too_high (no_stack_if (ltb room (h * (w + end))) area_too_small (stack_tells (Stacked o h w)))
+  told_by o h w = no_stack_if (ltb max_stack_height h) stack_too_high (no_stack_if (ltb room (h * (w + end))) area_too_small (stack_tells (stacking o h w)))
 
   told-like : fit_told s (s.height * (s.block.width + end)) room ≡ fit_told t (t.height * (t.block.width + end)) room
   unfolding fit_told
@@ -98,13 +98,9 @@ module _ (s t : Stack) (like : StackLike s t) (end room : ℕ) where
       ∙ (ap (λ (h : ℕ). rows_of (with_end s.block.width t.block.cells) h (s.block.width + end)) like.height
       ∙ ap (λ (w : ℕ). rows_of (with_end w t.block.cells) t.height (w + end)) like.width)
 
-  pub put_like : (r : StackAnswer) (out : List ℕ) → PutStack s end room r out → PutStack t end room r out
+  pub put_like : (r : Result Stacked Refusal) (out : List ℕ) → PutStack s end room r out → PutStack t end room r out
   put_like r out p =
       record {
         answer = p.answer ∙ told-like;
         area = p.area ∙ ap₂ (λ (x : StackTold) (bytes : List ℕ). area_after x bytes room) told-like rows-like;
       }
-
--- a block that lies row after row
-pub exact-like : (s : List ℕ) (w n : ℕ) → Like n (placed_block s (record { base = 0; stride = w; width = w; height = n })) (exact_block w s)
-exact-like s w n = record { width = refl; cells = λ r c u v. let e : r * w + 0 + c ≡ r * w + c = omega arith in ap (λ (i : ℕ). get_or s i 0) e }

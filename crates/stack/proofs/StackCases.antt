@@ -1,6 +1,6 @@
 -- What a stack answers and leaves, case by case of the code's tests.
 -- Assumes nothing.
-use mathlib.Core.Path.{◌≡◌, ◌∙◌, ap, ap₂}
+use mathlib.Core.Path.{◌≡◌, refl, ◌∙◌, ap, ap₂}
 use mathlib.Core.Bool.{Bool, true, false}
 use mathlib.Core.List.{List, ◌++◌}
 use Prim.Native.Nat.{ℕ, ◌+◌, ◌-◌, ◌*◌, ◌≤◌, ◌<◌}
@@ -14,16 +14,24 @@ use Rattle.ground.proofs.Areas.{padded_of}
 use Rattle.subchars.specs.declared.VerticalLayout.{VerticalLayout}
 use Rattle.blocks.specs.Block.{Block, rows_of}
 use Rattle.blocks.proofs.Rows.{length-rows}
-use Rattle.stack.specs.declared.StackAnswer.{StackAnswer}
-use Rattle.stack.specs.declared.StackAnswer.TheVariants.{Stacked}
+use Rattle.std.specs.Prelude.{Result}
+use Rattle.std.specs.Int.{from_bool}
+use Rattle.ground.specs.declared.refusals.Reason.{Reason}
+use Rattle.ground.specs.declared.refusals.Refusal.{Refusal}
+use Rattle.stack.specs.declared.Stacked.{Stacked}
 use Rattle.columns.specs.Stack.{wider, stack_overlap, stacked_at, Stack, stacked}
 use Rattle.columns.specs.Placing.{with_end}
-use Rattle.stack.specs.StackCall.{StackTold, stack_tells, no_stack, good_stack, fit_told, area_after, stack_of, stack_size, stack_rows, stack_told, stack_area, StackGives, PutStack, RefusesStack}
+use Rattle.stack.specs.StackCall.{StackTold, stack_tells, stacking, no_stack, good_stack, fit_told, area_after, stack_of, stack_size, stack_rows, stack_told, stack_area, lfs, StackGives, PutStack, RefusesStack}
 use Rattle.stack.proofs.Ending.{not_ended}
 
+-- one LF where a row is to end with it, as the code counts it
+pub lfs-counted : (ended : Bool) → from_bool ended ≡ lfs ended
+lfs-counted true = refl
+lfs-counted false = refl
+
 -- a refusal leaves zeros
-zeros-after : (number : ℕ) (bytes : List ℕ) (room : ℕ) → zeros room ≡ area_after (no_stack number) bytes room
-zeros-after number bytes room = let z : room ≡ room - 0 = omega arith in ap zeros z
+zeros-after : (reason : Reason) (bytes : List ℕ) (room : ℕ) → zeros room ≡ area_after (no_stack reason) bytes room
+zeros-after reason bytes room = let z : room ≡ room - 0 = omega arith in ap zeros z
 
 -- a stack of good shape
 module _ (s : Stack) (end room : ℕ) where
@@ -33,11 +41,11 @@ module _ (s : Stack) (end room : ℕ) where
   abbrev told : StackTold
   told = fit_told s (s.height * (s.block.width + end)) room
 
-  as_told : (r : StackAnswer) (area : List ℕ) (t : StackTold) → t ≡ told → stack_tells r ≡ t → area ≡ area_after t bytes room → PutStack s end room r area
+  as_told : (r : Result Stacked Refusal) (area : List ℕ) (t : StackTold) → t ≡ told → stack_tells r ≡ t → area ≡ area_after t bytes room → PutStack s end room r area
   as_told r area t e p q = record { answer = p ∙ e; area = q ∙ ap (λ (x : StackTold). area_after x bytes room) e }
 
-  refused : (number : ℕ) (r : StackAnswer) (area : List ℕ) → RefusesStack number room r area → no_stack number ≡ told → PutStack s end room r area
-  refused number r area g e = as_told r area (no_stack number) e g.answer (g.area ∙ zeros-after number bytes room)
+  refused : (reason : Reason) (r : Result Stacked Refusal) (area : List ℕ) → RefusesStack reason room r area → no_stack reason ≡ told → PutStack s end room r area
+  refused reason r area g e = as_told r area (no_stack reason) e g.answer (g.area ∙ zeros-after reason bytes room)
 
   high-told : max_stack_height < s.height → no_stack stack_too_high ≡ told
   unfolding fit_told
@@ -48,7 +56,7 @@ module _ (s : Stack) (end room : ℕ) where
     unfolding fit_told
     small-told u = rw (le-ltb max_stack_height s.height low, lt-ltb room (s.height * (s.block.width + end)) u)
 
-    fits_told : s.height * (s.block.width + end) ≤ room → stack_tells (Stacked s.overlap s.height s.block.width) ≡ told
+    fits_told : s.height * (s.block.width + end) ≤ room → stack_tells (stacking s.overlap s.height s.block.width) ≡ told
     unfolding fit_told
     fits_told u = rw (le-ltb max_stack_height s.height low, le-ltb room (s.height * (s.block.width + end)) u)
 
@@ -61,44 +69,49 @@ module _ (layout : VerticalLayout) (hardblank n : ℕ) (a : Block) (m : ℕ) (b 
     abbrev high : ℕ
     high = n + m - o
 
-    high_is : high ≡ both.height
-    unfolding stacked
-    high_is = ap (λ (x : ℕ). n + m - x) is
-
     over_is : o ≡ both.overlap
     unfolding stacked
     over_is = is
 
-    pub too_high : max_stack_height < high → (r : StackAnswer) (area : List ℕ) → RefusesStack stack_too_high room r area → PutStack both end room r area
-    too_high u r area g = refused both end room stack_too_high r area g (high-told both end room (omega (arith, high_is)))
-
-    module _ (low : high ≤ max_stack_height) (w : ℕ) (wide : w ≡ wider a b) where
-      wide_is : w ≡ both.block.width
+    -- as the code has the height, the width and the LFs behind a row
+    module _ (h : ℕ) (h-is : h ≡ high) where
+      high_is : h ≡ both.height
       unfolding stacked
-      wide_is = wide
+      high_is = h-is ∙ ap (λ (x : ℕ). n + m - x) is
 
-      size_is : high * (w + end) ≡ both.height * (both.block.width + end)
-      size_is = ap₂ (λ (x y : ℕ). x * (y + end)) high_is wide_is
+      pub too_high : max_stack_height < h → (r : Result Stacked Refusal) (area : List ℕ) → RefusesStack stack_too_high room r area → PutStack both end room r area
+      too_high u r area g = refused both end room stack_too_high r area g (high-told both end room (omega (arith, high_is)))
 
-      pub no_room : room < high * (w + end) → (r : StackAnswer) (area : List ℕ) → RefusesStack area_too_small room r area → PutStack both end room r area
-      no_room u r area g = refused both end room area_too_small r area g (small-told both end room (omega (arith, high_is)) (omega (arith, size_is)))
+      module _ (low : h ≤ max_stack_height) (w e : ℕ) (w-is : w ≡ wider a b) (e-is : e ≡ end) where
+        wide_is : w ≡ both.block.width
+        unfolding stacked
+        wide_is = w-is
 
-      cells_are : rows_of (with_end w (stacked_at layout hardblank n o a b)) high (w + end) ≡ bytes both end room
-      unfolding stacked
-      cells_are =
-          ap (λ (x : ℕ). rows_of (with_end w (stacked_at layout hardblank n x a b)) (n + m - x) (w + end)) is
-          ∙ ap (λ (x : ℕ). rows_of (with_end x (stacked_at layout hardblank n (stack_overlap layout hardblank n a m b) a b)) (n + m - stack_overlap layout hardblank n a m b) (x + end)) wide
+        size_is : h * (w + e) ≡ both.height * (both.block.width + end)
+        size_is = ap₂ (λ (x y : ℕ). x * (y + e)) high_is wide_is ∙ ap (λ (x : ℕ). both.height * (both.block.width + x)) e-is
 
-      -- the rows written, and zeros behind them
-      pub done : high * (w + end) ≤ room → (rows area : List ℕ) → length rows ≡ room → take (high * (w + end)) rows ≡ rows_of (with_end w (stacked_at layout hardblank n o a b)) high (w + end) → area ≡ take (high * (w + end)) rows ++ zeros (length rows - high * (w + end)) → PutStack both end room (Stacked o high w) area
-      done u rows area l e z =
-          as_told both end room (Stacked o high w) area (stack_tells (Stacked both.overlap both.height both.block.width))
-          (fits_told both end room (omega (arith, high_is)) (omega (arith, size_is)))
-          (ap (λ (x : ℕ). stack_tells (Stacked x high w)) over_is ∙ ap₂ (λ (x y : ℕ). stack_tells (Stacked both.overlap x y)) high_is wide_is)
-          (z ∙ (padded_of (rows_of (with_end w (stacked_at layout hardblank n o a b)) high (w + end)) rows (high * (w + end)) room e (length-rows (with_end w (stacked_at layout hardblank n o a b)) high (w + end)) l ∙ ap (λ (x : List ℕ). padded x room) cells_are))
+        pub no_room : room < h * (w + e) → (r : Result Stacked Refusal) (area : List ℕ) → RefusesStack area_too_small room r area → PutStack both end room r area
+        no_room u r area g = refused both end room area_too_small r area g (small-told both end room (omega (arith, high_is)) (omega (arith, size_is)))
+
+        rows_are : rows_of (with_end (wider a b) (stacked_at layout hardblank n o a b)) high (wider a b + end) ≡ bytes both end room
+        unfolding stacked
+        rows_are = ap (λ (x : ℕ). rows_of (with_end (wider a b) (stacked_at layout hardblank n x a b)) (n + m - x) (wider a b + end)) is
+
+        size_told : h * (w + e) ≡ high * (wider a b + end)
+        size_told = ap₂ (λ (x y : ℕ). x * (y + e)) h-is w-is ∙ ap (λ (x : ℕ). high * (wider a b + x)) e-is
+
+        -- the rows written, and zeros behind them
+        pub done : h * (w + e) ≤ room → (rows area : List ℕ) → length rows ≡ room → take (high * (wider a b + end)) rows ≡ rows_of (with_end (wider a b) (stacked_at layout hardblank n o a b)) high (wider a b + end) → area ≡ take (h * (w + e)) rows ++ zeros (length rows - h * (w + e)) → PutStack both end room (stacking o h w) area
+        done u rows area l t z =
+            as_told both end room (stacking o h w) area (stack_tells (stacking both.overlap both.height both.block.width))
+            (fits_told both end room (omega (arith, high_is)) (omega (arith, size_is)))
+            (ap (λ (x : ℕ). stack_tells (stacking x h w)) over_is ∙ ap₂ (λ (x y : ℕ). stack_tells (stacking both.overlap x y)) high_is wide_is)
+            (z ∙ (ap (λ (k : ℕ). take k rows ++ zeros (length rows - k)) size_told
+            ∙ (padded_of (rows_of (with_end (wider a b) (stacked_at layout hardblank n o a b)) high (wider a b + end)) rows (high * (wider a b + end)) room t (length-rows (with_end (wider a b) (stacked_at layout hardblank n o a b)) high (wider a b + end)) l
+            ∙ ap (λ (x : List ℕ). padded x room) rows_are)))
 
 -- the call
-module _ (layout : VerticalLayout) (hardblank n upperWidth : ℕ) (upper : List ℕ) (m lowerWidth : ℕ) (lower : List ℕ) (room : ℕ) (r : StackAnswer) (area : List ℕ) where
+module _ (layout : VerticalLayout) (hardblank n upperWidth : ℕ) (upper : List ℕ) (m lowerWidth : ℕ) (lower : List ℕ) (room : ℕ) (r : Result Stacked Refusal) (area : List ℕ) where
   abbrev test : Bool
   test = good_stack layout hardblank n upperWidth (length upper) m lowerWidth (length lower)
 

@@ -1,2 +1,3 @@
 -- The meaning of the call `stack`.
 pub mod StackCall
+pub mod Overlaying

@@ -4,15 +4,10 @@
 pub mod stacking;
 mod writing;
 
-use ground::refusals::Refusal;
-
-// What a stack answers: the overlap, the height and the width of the result, or a refusal.
-#[derive(Clone, Copy)]
-pub enum StackAnswer {
-    Stacked {
-        overlap: usize,
-        height: usize,
-        width: usize,
-    },
-    Refused(Refusal),
+// What a stack answers, where it is not refused: the overlap, the height and the width of the result.
+#[derive(Clone, Copy, PartialEq, Eq)]
+pub struct Stacked {
+    pub overlap: usize,
+    pub height: usize,
+    pub width: usize,
 }

@@ -1,97 +1,112 @@
 // A stack as it is asked for: the shape is tested, the overlap found, and the lent area filled. Refusals 17, 18, 9.
-ghost use Rattle.std.specs.Prelude.{◌≡◌, ◌≤◌, max, length};
+ghost use Rattle.std.specs.Prelude.{◌≡◌, ◌*◌, ◌≤◌, length};
+ghost use Rattle.ground.specs.Limits.{max_line_width, max_stack_height};
+ghost use Rattle.blocks.specs.Block.{exact_block};
 ghost use Rattle.columns.specs.Stack.{stacked};
-ghost use Rattle.columns.specs.Placing.{placed_block, PlacedIn};
-ghost use Rattle.stack.specs.StackCall.{good_stack, StackGives, PutStack, RefusesStack};
+ghost use Rattle.columns.specs.Placing.{placed_block};
+ghost use Rattle.join.specs.Shape.{good_block};
+ghost use Rattle.stack.specs.StackCall.{lfs, good_stack, StackGives, PutStack, RefusesStack};
 
-use crate::{StackAnswer, writing};
-use columns::Placed;
-use ground::refusals::Refusal;
-use ground::{limits, refusals};
+use crate::Stacked;
+use crate::writing::Overlaid;
+use columns::{Placed, overlaps};
+use ground::limits;
+use ground::refusals::{Reason, Refusal};
 use join::shape;
 use subchars::{SubCharacter, VerticalLayout};
 
 // A refusal, with zeros all through the area.
-pub fn refuse(number: usize, out: &mut [u8]) -> StackAnswer
-    ensures { RefusesStack number (length out.old) result out.new }
+pub fn refuse(reason: Reason, out: &mut [u8]) -> Result<Stacked, Refusal>
+    ensures { RefusesStack reason (length out.old) result out.new }
 {
     ground::zero_from(out, 0);
-    StackAnswer::Refused(Refusal { number, place: 0 })
+    Err(Refusal::of(reason))
 }
 
-fn larger(a: usize, b: usize) -> usize
-    ensures { result ≡ max a b }
-{
-    if a < b { b } else { a }
-}
-
-// Stacks two blocks, with an LF behind each row where `end` is 1: 18, then 9.
+// Stacks two blocks, with an LF behind each row where one is asked for: 18, then 9.
 pub fn put_stack(
     out: &mut [u8],
-    end: usize,
+    lf_ended: bool,
     layout: VerticalLayout,
     hardblank: SubCharacter,
-    upper: &[u8],
-    u: Placed,
-    lower: &[u8],
-    l: Placed,
-) -> StackAnswer
-    requires placed_in { PlacedIn upper.now u }
-    requires placed_in_2 { PlacedIn lower.now l }
-    requires end_bound { end ≤ 1 }
-    ensures { PutStack (stacked layout hardblank.0 u.height (placed_block upper.now u) l.height (placed_block lower.now l)) end (length out.old) result out.new }
+    upper: Placed,
+    lower: Placed,
+) -> Result<Stacked, Refusal>
+    ensures { PutStack (stacked layout hardblank.0 upper.entry.height (placed_block upper.entry) lower.entry.height (placed_block lower.entry)) (lfs lf_ended) (length out.old) result out.new }
 {
-    let o = columns::overlaps::overlap_of(layout, hardblank, upper, u, lower, l);
-    let h = u.height + l.height - o;
-    if limits::MAX_STACK_HEIGHT < h {
-        return refuse(refusals::STACK_TOO_HIGH, out);
+    let overlap = overlaps::overlap_of(layout, hardblank, upper, lower);
+    let both = Overlaid {
+        layout,
+        hardblank,
+        upper,
+        lower,
+        overlap,
+    };
+    let height = both.height();
+    if limits::MAX_STACK_HEIGHT < height {
+        return refuse(Reason::StackTooHigh, out);
     }
-    let w = larger(u.width, l.width);
-    let needed = h * (w + end);
+    let width = both.width();
+    let needed = height * (width + usize::from(lf_ended));
     if out.len() < needed {
-        return refuse(refusals::AREA_TOO_SMALL, out);
+        return refuse(Reason::AreaTooSmall, out);
     }
-    writing::write_rows(out, end, layout, hardblank, upper, u, lower, l, o, w);
+    both.write_rows(out, lf_ended);
     ground::zero_from(out, needed);
-    StackAnswer::Stacked {
-        overlap: o,
-        height: h,
-        width: w,
+    Ok(Stacked {
+        overlap,
+        height,
+        width,
+    })
+}
+
+// A block whose rows lie one after another.
+#[derive(Clone, Copy)]
+struct Lent<'a> {
+    bytes: &'a [u8],
+    width: usize,
+    height: usize,
+}
+
+impl<'a> Lent<'a> {
+    // Where its rows lie.
+    fn placed(self) -> Placed<'a>
+        requires { (1 ≤ self.height) × (self.height ≤ max_stack_height) × (self.width ≤ max_line_width) × (length self.bytes.now ≡ self.height * self.width) }
+        ensures { (result.height ≡ self.entry.height) × (placed_block result ≡ exact_block self.entry.width self.entry.bytes.now) }
+    {
+        Placed {
+            bytes: self.bytes,
+            base: 0,
+            stride: self.width,
+            width: self.width,
+            height: self.height,
+        }
     }
+}
+
+// Whether a block is not refused under 17, at most so many rows high.
+fn good_block(tallest: usize, block: Lent) -> bool
+    requires { tallest ≤ max_stack_height }
+    ensures { result ≡ good_block tallest block.entry.height max_line_width block.entry.width (length block.entry.bytes.now) }
+{
+    shape::good_block(
+        tallest,
+        block.height,
+        limits::MAX_LINE_WIDTH,
+        block.width,
+        block.bytes.len(),
+    )
 }
 
 // Whether a stack is not refused under 17.
-fn good_stack(
-    layout: VerticalLayout,
-    hardblank: SubCharacter,
-    upper_height: usize,
-    upper_width: usize,
-    upper_bytes: usize,
-    lower_height: usize,
-    lower_width: usize,
-    lower_bytes: usize,
-) -> bool
-    ensures { result ≡ good_stack layout hardblank.0 upper_height upper_width upper_bytes lower_height lower_width lower_bytes }
+#[tactic(auto, unfolding(crate::specs::StackCall::good_stack))]
+fn good_stack(layout: VerticalLayout, hardblank: SubCharacter, upper: Lent, lower: Lent) -> bool
+    ensures { result ≡ good_stack layout hardblank.0 upper.entry.height upper.entry.width (length upper.entry.bytes.now) lower.entry.height lower.entry.width (length lower.entry.bytes.now) }
 {
-    let upper = shape::good_block(
-        limits::MAX_STACK_HEIGHT,
-        upper_height,
-        limits::MAX_LINE_WIDTH,
-        upper_width,
-        upper_bytes,
-    );
-    let lower = shape::good_block(
-        limits::MAX_HEIGHT,
-        lower_height,
-        limits::MAX_LINE_WIDTH,
-        lower_width,
-        lower_bytes,
-    );
-    let blocks = ground::both(upper, lower);
-    ground::both(
-        ground::both(blocks, vertical::good_vertical(layout)),
-        subchars::legal_hardblank(hardblank),
-    )
+    good_block(limits::MAX_STACK_HEIGHT, upper)
+        && good_block(limits::MAX_HEIGHT, lower)
+        && vertical::good_vertical(layout)
+        && subchars::legal_hardblank(hardblank)
 }
 
 // Stacks the lower block under the upper one; both lie row after row.
@@ -105,32 +120,21 @@ pub fn stack_blocks(
     hardblank: SubCharacter,
     layout: VerticalLayout,
     out: &mut [u8],
-) -> StackAnswer
+) -> Result<Stacked, Refusal>
     ensures { StackGives layout hardblank.0 upper_height upper_width upper.now lower_height lower_width lower.now (length out.old) result out.new }
 {
-    if !good_stack(
-        layout,
-        hardblank,
-        upper_height,
-        upper_width,
-        upper.len(),
-        lower_height,
-        lower_width,
-        lower.len(),
-    ) {
-        return refuse(refusals::BAD_SHAPE, out);
-    }
-    let u = Placed {
-        base: 0,
-        stride: upper_width,
+    let a = Lent {
+        bytes: upper,
         width: upper_width,
         height: upper_height,
     };
-    let l = Placed {
-        base: 0,
-        stride: lower_width,
+    let b = Lent {
+        bytes: lower,
         width: lower_width,
         height: lower_height,
     };
-    put_stack(out, 0, layout, hardblank, upper, u, lower, l)
+    if !good_stack(layout, hardblank, a, b) {
+        return refuse(Reason::BadShape, out);
+    }
+    put_stack(out, false, layout, hardblank, a.placed(), b.placed())
 }

@@ -8,7 +8,8 @@ ghost use Rattle.bothfiles.specs.Held.{FilesHeld};
 ghost use Rattle.twolines.specs.TwoLines.{lines_of, draw_lines, LinesOut};
 
 use bothfiles::Files;
-use ground::{limits, refusals};
+use ground::limits;
+use ground::refusals::{Reason, Refusal};
 use index::latest;
 use twolines::LinesAnswer;
 
@@ -42,7 +43,7 @@ fn draw_files(
             out, scratch, upper, lower, font, header, count, codes, starts, widths, places,
             commands, stages, firsts, lasts, news,
         ),
-        Files::Refused(r) => twolines::refuse(r.number, r.place, out),
+        Files::Refused(r) => twolines::refuse(r, out),
     }
 }
 
@@ -96,7 +97,7 @@ fn draw_tested(
     ensures { LinesOut (draw_lines (length scratch.old) font.now control.now upper.now lower.now) (length out.old) result out.new }
 {
     if scratch.len() < limits::MIN_STACKED_SCRATCH {
-        return twolines::refuse(refusals::AREA_TOO_SMALL, 0, out);
+        return twolines::refuse(Refusal::of(Reason::AreaTooSmall), out);
     }
     draw_once(out, scratch, upper, lower, font, control)
 }

@@ -10,7 +10,8 @@ use lib.Dec.{ltb}
 use lib.ListN.{length}
 use borrow.Author.Tests.{ltb-true, ltb-false}
 use Rattle.ground.specs.Limits.{max_line_width, max_text, min_scratch}
-use Rattle.ground.specs.Refusals.{refusal, too_many_characters, area_too_small, control_file_too_long, too_many_commands, text_too_long, line_too_wide, fonts_differ}
+use Rattle.ground.specs.Refusals.{refusal, number_of, too_many_characters, area_too_small, control_file_too_long, too_many_commands, text_too_long, line_too_wide, fonts_differ}
+use Rattle.ground.specs.declared.refusals.Reason.{Reason}
 use Rattle.ground.specs.declared.refusals.Refusal.{Refusal}
 use Rattle.blocks.specs.Block.{Block}
 use Rattle.header.specs.declared.Header.{Header}
@@ -139,12 +140,12 @@ module _ (size : ℕ) (s t control text : List ℕ) (room : ℕ) where
   abbrev Told : DrawAnswer → Type 0
   Told (Drawn w n) = DrawnAs w n
   Told (Refused r) =
-      (r.number ≤ too_many_characters → FontsFor r) ×
-      (r.number ≡ fonts_differ → Differ r.place) ×
-      (control_file_too_long ≤ r.number → r.number ≤ too_many_commands → ControlFor r) ×
-      (r.number ≡ text_too_long → TooLong r.place) ×
-      (r.number ≡ line_too_wide → TooWide r.place) ×
-      (r.number ≡ area_too_small → TooSmall r.place)
+      (number_of r.reason ≤ number_of too_many_characters → FontsFor r) ×
+      (number_of r.reason ≡ number_of fonts_differ → Differ r.place) ×
+      (number_of control_file_too_long ≤ number_of r.reason → number_of r.reason ≤ number_of too_many_commands → ControlFor r) ×
+      (number_of r.reason ≡ number_of text_too_long → TooLong r.place) ×
+      (number_of r.reason ≡ number_of line_too_wide → TooWide r.place) ×
+      (number_of r.reason ≡ number_of area_too_small → TooSmall r.place)
 
   told-unfit : min_scratch ≤ size → (r : Refusal) → Unfit s t r → Told (Refused r)
   told-unfit u _ (first-refused r p) =
@@ -177,16 +178,16 @@ module _ (size : ℕ) (s t control text : List ℕ) (room : ℕ) where
   tells : (a : DrawAnswer) → answer ≡ a → Told a
   tells a e = told a (subst DrawsTo e one_of)
 
-  refused-at : (number p : ℕ) → p ≡ 0 → answer ≡ Refused (refusal number 0) → answer ≡ Refused (refusal number p)
-  refused-at number p e a = subst (λ (q : ℕ). answer ≡ Refused (refusal number q)) (sym e) a
+  refused-at : (why : Reason) (p : ℕ) → p ≡ 0 → answer ≡ Refused (refusal why 0) → answer ≡ Refused (refusal why p)
+  refused-at why p e a = subst (λ (q : ℕ). answer ≡ Refused (refusal why q)) (sym e) a
 
-  pub row-fonts : (r : Refusal) → r.number ≤ too_many_characters → answer ≡ Refused r ↔ FontsFor r
+  pub row-fonts : (r : Refusal) → number_of r.reason ≤ number_of too_many_characters → answer ≡ Refused r ↔ FontsFor r
   row-fonts r l = (λ e. (tells _ e).0 l, λ w. ⊎_elim (λ p. gives _ (fonts-refused w.0 r (first-refused r p))) (λ v. gives _ (fonts-refused w.0 r (second-refused v.0 v.1 v.2 r v.3))) w.1)
 
   pub row_24 : (p : ℕ) → answer ≡ Refused (refusal fonts_differ p) ↔ Differ p
   row_24 p = (λ e. (tells _ e).1 refl, λ w. refused-at fonts_differ p w.0 (gives _ (fonts-refused w.1 _ (differ w.2 w.3 w.4 w.5 w.6 w.7 w.8))))
 
-  pub row-control : (r : Refusal) → control_file_too_long ≤ r.number → r.number ≤ too_many_commands → answer ≡ Refused r ↔ ControlFor r
+  pub row-control : (r : Refusal) → number_of control_file_too_long ≤ number_of r.reason → number_of r.reason ≤ number_of too_many_commands → answer ≡ Refused r ↔ ControlFor r
   row-control r u v = (λ e. (tells _ e).2 u v, λ w. gives _ (from_both w.0 w.1 w.2 w.3 w.4 _ (source.control-refused r w.5)))
 
   pub row_15 : (p : ℕ) → answer ≡ Refused (refusal text_too_long p) ↔ TooLong p

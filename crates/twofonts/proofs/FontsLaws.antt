@@ -9,6 +9,7 @@ use lib.IntN.{ℤ}
 use lib.ListN.{length, take, drop}
 use borrow.Author.Tests.{lt-ltb, le-ltb, eqb-true}
 use borrow.Rule.Slice.PartMut.{put_mid}
+use Rattle.std.specs.Prelude.{Result, Ok, Err}
 use Rattle.ground.specs.Limits.{min_scratch, max_characters}
 use Rattle.ground.specs.Refusals.{refusal, area_too_small, fonts_differ}
 use Rattle.ground.specs.declared.refusals.Refusal.{Refusal}
@@ -19,8 +20,7 @@ use Rattle.chars.specs.declared.Entry.{Entry}
 use Rattle.font.specs.Font.{FontReading, reading}
 use Rattle.index.specs.Index.{CharacterRoom}
 use Rattle.index.specs.Latest.{small_codes}
-use Rattle.reader.specs.declared.FontAnswer.{FontAnswer}
-use Rattle.reader.specs.declared.FontAnswer.TheVariants as one
+use Rattle.reader.specs.declared.FontRead.{FontRead}
 use Rattle.flc.specs.Control as flc
 use Rattle.source.specs.declared.Origin.TheVariants.{Two}
 use Rattle.fontlists.specs.TwoFonts.{looked_up_in_two}
@@ -36,35 +36,27 @@ use Rattle.twofonts.specs.RowOfTwo.{no_row, row_in, row_by, row_of_two}
 use Rattle.twofonts.specs.TwoDrawing.{two_by, two_of, two_lined}
 use Rattle.twofonts.specs.Held.{both_of, Beside, BothHeld}
 
--- What both answers come to where neither is a refusal.
-module _ (h k : Header) (n m : ℕ) where
-  pub both_alike : alike h k ≡ true → both_of (one.Read h n) (one.Read k m) ≡ Read h n m
-  both_alike e = ap (λ (b : Bool). cond b (Read h n m) (Refused (refusal fonts_differ 0))) e
-
-  pub both_differ : alike h k ≡ false → both_of (one.Read h n) (one.Read k m) ≡ Refused (refusal fonts_differ 0)
-  both_differ e = ap (λ (b : Bool). cond b (Read h n m) (Refused (refusal fonts_differ 0))) e
-
 -- A list whose first k were replaced by p and then the rest by q.
 abbrev pub filled : {A : Type 0} → ℕ → List A → List A → List A → List A
 filled k s p q = put_mid k (length (p ++ drop k s) - k) (p ++ drop k s) q
 
 -- What both answers come to holds of lists whose halves hold each font.
 module _ (s t : List ℕ) (codes : List ℤ) (starts widths places : List ℕ) (room : CharacterRoom max_characters codes starts widths) where
-  abbrev First : FontAnswer → Type 0
+  abbrev First : Result FontRead Refusal → Type 0
   First a = FontHeldBy s a (take max_characters codes) (take max_characters starts) (take max_characters widths) (take small_codes places)
 
-  abbrev Second : FontAnswer → Type 0
+  abbrev Second : Result FontRead Refusal → Type 0
   Second b = FontHeldBy t b (drop max_characters codes) (drop max_characters starts) (drop max_characters widths) (drop small_codes places)
 
-  pub both_held : (a b : FontAnswer) → First a → Second b → BothHeld s t (both_of a b) codes starts widths places
+  pub both_held : (a b : Result FontRead Refusal) → First a → Second b → BothHeld s t (both_of a b) codes starts widths places
   unfolding fonts_of
-  both_held (one.Refused q) b p r = ap (λ (m : FontReading). fonts_by m (reading t)) p
-  both_held (one.Read h n) (one.Refused q) p r = λ i. fonts_by (p.said i) (r i)
-  both_held (one.Read h n) (one.Read k m) p r = go (alike h k) refl
+  both_held (Err q) b p r = ap (λ (m : FontReading). fonts_by m (reading t)) p
+  both_held (Ok a) (Err q) p r = λ i. fonts_by (p.said i) (r i)
+  both_held (Ok a) (Ok b) p r = go (alike a.header b.header) refl
     where
-      go : (e : Bool) → alike h k ≡ e → BothHeld s t (cond e (Read h n m) (Refused (refusal fonts_differ 0))) codes starts widths places
-      go true e = record { other = k; equal = e; held = record { room = room; first = p; second = r } }
-      go false e = (λ i. fonts_by (p.said i) (r.said i)) ∙ ap (λ (x : Bool). cond x (fonts h p.characters r.characters) (unfit (refusal fonts_differ 0))) e
+      go : (e : Bool) → alike a.header b.header ≡ e → BothHeld s t (cond e (Read a.header a.count b.count) (Refused (refusal fonts_differ 0))) codes starts widths places
+      go true e = record { other = b.header; equal = e; held = record { room = room; first = p; second = r } }
+      go false e = (λ i. fonts_by (p.said i) (r.said i)) ∙ ap (λ (x : Bool). cond x (fonts a.header p.characters r.characters) (unfit (refusal fonts_differ 0))) e
 
 -- The lists hold two fonts of one height.
 module _ (s t : List ℕ) (h : Header) (n m : ℕ) (codes : List ℤ) (starts widths places : List ℕ) (x : Beside s t h n m codes starts widths places) where

@@ -8,7 +8,8 @@ use Prim.Native.Nat.{ℕ, ◌≤◌}
 use native.Mathlib.Omega.{arith}
 use lib.Dec.{ltb}
 use borrow.Author.Tests.{ltb-true, ltb-false}
-use Rattle.ground.specs.Refusals.{refusal, too_many_characters, bad_shape, fonts_differ}
+use Rattle.ground.specs.Refusals.{refusal, number_of, too_many_characters, bad_shape, fonts_differ}
+use Rattle.ground.specs.declared.refusals.Reason.{Reason}
 use Rattle.ground.specs.declared.refusals.Refusal.{Refusal}
 use Rattle.subchars.specs.declared.Code.{Code}
 use Rattle.header.specs.declared.Header.{Header}
@@ -69,7 +70,7 @@ module _ (s t : List ℕ) (c : Code) (r : ℕ) where
 
   abbrev Told : RequestedOfTwo → Type 0
   Told (Row w p n) = GivenOfTwo s t c r w p n
-  Told (Refused q) = (q.number ≤ too_many_characters → FontsFor q) × (q.number ≡ fonts_differ → Differ q.place) × (q.number ≡ bad_shape → (q.place ≡ 0) × NoRow s t c r)
+  Told (Refused q) = (number_of q.reason ≤ number_of too_many_characters → FontsFor q) × (number_of q.reason ≡ number_of fonts_differ → Differ q.place) × (number_of q.reason ≡ number_of bad_shape → (q.place ≡ 0) × NoRow s t c r)
 
   told-unfit : (q : Refusal) → Unfit s t q → Told (Refused q)
   told-unfit _ (first-refused q p) = let b = font_refusal s q p in (λ e. inl p, λ e. absurd (omega (arith, b.1)), λ e. absurd (omega (arith, b.1)))
@@ -84,10 +85,10 @@ module _ (s t : List ℕ) (c : Code) (r : ℕ) where
   tells : (a : RequestedOfTwo) → answer ≡ a → Told a
   tells a e = told a (subst RowsTo e one_of)
 
-  refused-at : (number p : ℕ) → p ≡ 0 → answer ≡ Refused (refusal number 0) → answer ≡ Refused (refusal number p)
-  refused-at number p e a = subst (λ (q : ℕ). answer ≡ Refused (refusal number q)) (sym e) a
+  refused-at : (why : Reason) (p : ℕ) → p ≡ 0 → answer ≡ Refused (refusal why 0) → answer ≡ Refused (refusal why p)
+  refused-at why p e a = subst (λ (q : ℕ). answer ≡ Refused (refusal why q)) (sym e) a
 
-  pub row-fonts : (q : Refusal) → q.number ≤ too_many_characters → answer ≡ Refused q ↔ FontsFor q
+  pub row-fonts : (q : Refusal) → number_of q.reason ≤ number_of too_many_characters → answer ≡ Refused q ↔ FontsFor q
   row-fonts q l = (λ e. (tells _ e).0 l, λ w. ⊎_elim (λ p. gives _ (fonts-refused q (first-refused q p))) (λ v. gives _ (fonts-refused q (second-refused v.0 v.1 v.2 q v.3))) w)
 
   pub row_24 : (p : ℕ) → answer ≡ Refused (refusal fonts_differ p) ↔ Differ p

@@ -9,9 +9,11 @@ use lib.Dec.{eqb, ltb}
 use lib.IntN.{pos}
 use lib.ListN.{length}
 use borrow.Author.Tests.{eq-eqb, ne_eqb, eqb-false}
+use Rattle.std.specs.Prelude.{Option, Some, None, Result, Ok, Err}
 use Rattle.ground.specs.Limits.{max_text, min_scratch}
 use Rattle.ground.specs.Refusals.{refusal, area_too_small, text_too_long, fonts_differ}
 use Rattle.ground.proofs.Tests.{clash, and_both, and_none, and_left_false, and_right_false}
+use Rattle.ground.specs.declared.refusals.Refusal.{Refusal}
 use Rattle.subchars.specs.declared.Code.{Code}
 use Rattle.subchars.specs.declared.Mode.{Mode}
 use Rattle.blocks.specs.Block.{Block}
@@ -21,12 +23,9 @@ use Rattle.lines.specs.Lines.{after}
 use Rattle.chars.specs.declared.Entry.{Entry}
 use Rattle.chars.specs.Codes.{same_code}
 use Rattle.font.specs.Font as font
-use Rattle.reader.specs.declared.Use.{Use}
-use Rattle.reader.specs.declared.Use.TheVariants.{Used, Nothing}
 use Rattle.reader.specs.Reader.{used, last_of, which_of, looked_up}
 use Rattle.reader.proofs.ThreeLaws.{Has, found_exactly, own_found, other_stood_in, unused_nothing}
-use Rattle.request.specs.declared.Requested.{Requested}
-use Rattle.request.specs.declared.Requested.TheVariants as one-row
+use Rattle.request.specs.declared.RowPlace.{RowPlace}
 use Rattle.request.specs.Request.{in_font, sought, bad_request, row_of_sought, row_request}
 use Rattle.flc.specs.declared.Command.{Command}
 use Rattle.flc.specs.Control as flc
@@ -46,95 +45,95 @@ use Rattle.twofonts.specs.TwoDrawing.{two_by, two_of, two_lined}
 use Rattle.twofonts.proofs.RowLaws.{BothSay, say_fonts}
 
 -- The order of the four tries, and that each is used exactly if none before it is there.
-module _ (a b z w : Use) where
-  to_first : (e : Entry) → first_try a b z w ≡ two.Found First e → a ≡ Used e
+module _ (a b z w : Option Entry) where
+  to_first : (e : Entry) → first_try a b z w ≡ two.Found First e → a ≡ Some e
   to_first e = go a b z w
     where
-      go : (a b z w : Use) → first_try a b z w ≡ two.Found First e → a ≡ Used e
-      go (Used d) b z w p = let q : d ≡ e = cc in ap Used q
-      go Nothing (Used d) z w p = clash (cc)
-      go Nothing Nothing (Used d) w p = clash (cc)
-      go Nothing Nothing Nothing (Used d) p = clash (cc)
-      go Nothing Nothing Nothing Nothing p = clash (cc)
+      go : (a b z w : Option Entry) → first_try a b z w ≡ two.Found First e → a ≡ Some e
+      go (Some d) b z w p = let q : d ≡ e = cc in ap Some q
+      go None (Some d) z w p = clash (cc)
+      go None None (Some d) w p = clash (cc)
+      go None None None (Some d) p = clash (cc)
+      go None None None None p = clash (cc)
 
-  to_second : (e : Entry) → first_try a b z w ≡ two.Found Second e → (a ≡ Nothing) × (b ≡ Used e)
+  to_second : (e : Entry) → first_try a b z w ≡ two.Found Second e → (a ≡ None) × (b ≡ Some e)
   to_second e = go a b z w
     where
-      go : (a b z w : Use) → first_try a b z w ≡ two.Found Second e → (a ≡ Nothing) × (b ≡ Used e)
-      go (Used d) b z w p = clash (cc)
-      go Nothing (Used d) z w p = let q : d ≡ e = cc in (refl, ap Used q)
-      go Nothing Nothing (Used d) w p = clash (cc)
-      go Nothing Nothing Nothing (Used d) p = clash (cc)
-      go Nothing Nothing Nothing Nothing p = clash (cc)
+      go : (a b z w : Option Entry) → first_try a b z w ≡ two.Found Second e → (a ≡ None) × (b ≡ Some e)
+      go (Some d) b z w p = clash (cc)
+      go None (Some d) z w p = let q : d ≡ e = cc in (refl, ap Some q)
+      go None None (Some d) w p = clash (cc)
+      go None None None (Some d) p = clash (cc)
+      go None None None None p = clash (cc)
 
-  to_third : (e : Entry) → first_try a b z w ≡ two.StoodIn First e → (a ≡ Nothing) × (b ≡ Nothing) × (z ≡ Used e)
+  to_third : (e : Entry) → first_try a b z w ≡ two.StoodIn First e → (a ≡ None) × (b ≡ None) × (z ≡ Some e)
   to_third e = go a b z w
     where
-      go : (a b z w : Use) → first_try a b z w ≡ two.StoodIn First e → (a ≡ Nothing) × (b ≡ Nothing) × (z ≡ Used e)
-      go (Used d) b z w p = clash (cc)
-      go Nothing (Used d) z w p = clash (cc)
-      go Nothing Nothing (Used d) w p = let q : d ≡ e = cc in (refl, refl, ap Used q)
-      go Nothing Nothing Nothing (Used d) p = clash (cc)
-      go Nothing Nothing Nothing Nothing p = clash (cc)
+      go : (a b z w : Option Entry) → first_try a b z w ≡ two.StoodIn First e → (a ≡ None) × (b ≡ None) × (z ≡ Some e)
+      go (Some d) b z w p = clash (cc)
+      go None (Some d) z w p = clash (cc)
+      go None None (Some d) w p = let q : d ≡ e = cc in (refl, refl, ap Some q)
+      go None None None (Some d) p = clash (cc)
+      go None None None None p = clash (cc)
 
-  to_fourth : (e : Entry) → first_try a b z w ≡ two.StoodIn Second e → (a ≡ Nothing) × (b ≡ Nothing) × (z ≡ Nothing) × (w ≡ Used e)
+  to_fourth : (e : Entry) → first_try a b z w ≡ two.StoodIn Second e → (a ≡ None) × (b ≡ None) × (z ≡ None) × (w ≡ Some e)
   to_fourth e = go a b z w
     where
-      go : (a b z w : Use) → first_try a b z w ≡ two.StoodIn Second e → (a ≡ Nothing) × (b ≡ Nothing) × (z ≡ Nothing) × (w ≡ Used e)
-      go (Used d) b z w p = clash (cc)
-      go Nothing (Used d) z w p = clash (cc)
-      go Nothing Nothing (Used d) w p = clash (cc)
-      go Nothing Nothing Nothing (Used d) p = let q : d ≡ e = cc in (refl, refl, refl, ap Used q)
-      go Nothing Nothing Nothing Nothing p = clash (cc)
+      go : (a b z w : Option Entry) → first_try a b z w ≡ two.StoodIn Second e → (a ≡ None) × (b ≡ None) × (z ≡ None) × (w ≡ Some e)
+      go (Some d) b z w p = clash (cc)
+      go None (Some d) z w p = clash (cc)
+      go None None (Some d) w p = clash (cc)
+      go None None None (Some d) p = let q : d ≡ e = cc in (refl, refl, refl, ap Some q)
+      go None None None None p = clash (cc)
 
-  to_none : first_try a b z w ≡ two.Nothing → (a ≡ Nothing) × (b ≡ Nothing) × (z ≡ Nothing) × (w ≡ Nothing)
+  to_none : first_try a b z w ≡ two.Nothing → (a ≡ None) × (b ≡ None) × (z ≡ None) × (w ≡ None)
   to_none = go a b z w
     where
-      go : (a b z w : Use) → first_try a b z w ≡ two.Nothing → (a ≡ Nothing) × (b ≡ Nothing) × (z ≡ Nothing) × (w ≡ Nothing)
-      go (Used d) b z w p = clash (cc)
-      go Nothing (Used d) z w p = clash (cc)
-      go Nothing Nothing (Used d) w p = clash (cc)
-      go Nothing Nothing Nothing (Used d) p = clash (cc)
-      go Nothing Nothing Nothing Nothing p = (refl, refl, refl, refl)
+      go : (a b z w : Option Entry) → first_try a b z w ≡ two.Nothing → (a ≡ None) × (b ≡ None) × (z ≡ None) × (w ≡ None)
+      go (Some d) b z w p = clash (cc)
+      go None (Some d) z w p = clash (cc)
+      go None None (Some d) w p = clash (cc)
+      go None None None (Some d) p = clash (cc)
+      go None None None None p = (refl, refl, refl, refl)
 
 module _ (c : Code) (es fs : List Entry) where
-  abbrev own : Use
+  abbrev own : Option Entry
   own = last_of c.0 es
 
-  abbrev its : Use
+  abbrev its : Option Entry
   its = last_of c.0 fs
 
-  abbrev zeroth : Use
+  abbrev zeroth : Option Entry
   zeroth = last_of (pos 0) es
 
-  abbrev other : Use
+  abbrev other : Option Entry
   other = last_of (pos 0) fs
 
-  pub first_try_lem : (e : Entry) → looked_up_in_two c es fs ≡ two.Found First e ↔ (own ≡ Used e)
+  pub first_try_lem : (e : Entry) → looked_up_in_two c es fs ≡ two.Found First e ↔ (own ≡ Some e)
   unfolding looked_up_in_two
-  first_try_lem e = (to_first own its zeroth other e, λ p. ap (λ (a : Use). first_try a its zeroth other) p)
+  first_try_lem e = (to_first own its zeroth other e, λ p. ap (λ (a : Option Entry). first_try a its zeroth other) p)
 
-  pub second_try : (e : Entry) → looked_up_in_two c es fs ≡ two.Found Second e ↔ ((own ≡ Nothing) × (its ≡ Used e))
+  pub second_try : (e : Entry) → looked_up_in_two c es fs ≡ two.Found Second e ↔ ((own ≡ None) × (its ≡ Some e))
   unfolding looked_up_in_two
   second_try e = (to_second own its zeroth other e, λ p. λ i. first_try (p.0 i) (p.1 i) zeroth other)
 
-  pub third_try : (e : Entry) → looked_up_in_two c es fs ≡ two.StoodIn First e ↔ ((own ≡ Nothing) × (its ≡ Nothing) × (zeroth ≡ Used e))
+  pub third_try : (e : Entry) → looked_up_in_two c es fs ≡ two.StoodIn First e ↔ ((own ≡ None) × (its ≡ None) × (zeroth ≡ Some e))
   unfolding looked_up_in_two
   third_try e = (to_third own its zeroth other e, λ p. λ i. first_try (p.0 i) (p.1 i) (p.2 i) other)
 
-  pub fourth_try : (e : Entry) → looked_up_in_two c es fs ≡ two.StoodIn Second e ↔ ((own ≡ Nothing) × (its ≡ Nothing) × (zeroth ≡ Nothing) × (other ≡ Used e))
+  pub fourth_try : (e : Entry) → looked_up_in_two c es fs ≡ two.StoodIn Second e ↔ ((own ≡ None) × (its ≡ None) × (zeroth ≡ None) × (other ≡ Some e))
   unfolding looked_up_in_two
   fourth_try e = (to_fourth own its zeroth other e, λ p. λ i. first_try (p.0 i) (p.1 i) (p.2 i) (p.3 i))
 
-  pub no_try : looked_up_in_two c es fs ≡ two.Nothing ↔ ((own ≡ Nothing) × (its ≡ Nothing) × (zeroth ≡ Nothing) × (other ≡ Nothing))
+  pub no_try : looked_up_in_two c es fs ≡ two.Nothing ↔ ((own ≡ None) × (its ≡ None) × (zeroth ≡ None) × (other ≡ None))
   unfolding looked_up_in_two
   no_try = (to_none own its zeroth other, λ p. λ i. first_try (p.0 i) (p.1 i) (p.2 i) (p.3 i))
 
 -- With the same font twice every answer is that font's.
-twice_choice : (s : List ℕ) (a z : Use) → choice_of_two s s (first_try a a z z) ≡ choice_of s (which_of a z)
-twice_choice s (Used e) z = refl
-twice_choice s Nothing (Used e) = refl
-twice_choice s Nothing Nothing = refl
+twice_choice : (s : List ℕ) (a z : Option Entry) → choice_of_two s s (first_try a a z z) ≡ choice_of s (which_of a z)
+twice_choice s (Some e) z = refl
+twice_choice s None (Some e) = refl
+twice_choice s None None = refl
 
 pub twice_source : (s : List ℕ) (es : List Entry) → two_source s s es es ≡ font_source s es
 unfolding two_source looked_up_in_two font_source looked_up
@@ -158,32 +157,32 @@ unfolding two_lined draw_lined
 twice_draws size s control text = ap (λ (x : Lined). cond (ltb size min_scratch) (unlined (refusal area_too_small 0)) x) (twice_lined s control text)
 
 -- The row, too, is that font's, told to stand in the first.
-abbrev pub in_first : Requested → RequestedOfTwo
-in_first (one-row.Row place width) = row.Row First place width
-in_first (one-row.Refused q) = row.Refused q
+abbrev pub in_first : Result RowPlace Refusal → RequestedOfTwo
+in_first (Ok x) = row.Row First x.place x.width
+in_first (Err q) = row.Refused q
 
 module _ (c : Code) (es : List Entry) where
-  used_twice : (e : Entry) → used c es ≡ Used e → (looked_up_in_two c es es ≡ two.Found First e) ⊎ (looked_up_in_two c es es ≡ two.StoodIn First e)
+  used_twice : (e : Entry) → used c es ≡ Some e → (looked_up_in_two c es es ≡ two.Found First e) ⊎ (looked_up_in_two c es es ≡ two.StoodIn First e)
   used_twice e p = go (same_code e.code c) refl
     where
       go : (b : Bool) → same_code e.code c ≡ b → (looked_up_in_two c es es ≡ two.Found First e) ⊎ (looked_up_in_two c es es ≡ two.StoodIn First e)
       go true q = inl (sym (either_looked_up c es es) ∙ ap (λ x. either_of x x) (own_found c es e p q))
       go false q = inr (sym (either_looked_up c es es) ∙ ap (λ x. either_of x x) (other_stood_in c es e p q))
 
-  unused_twice : used c es ≡ Nothing → looked_up_in_two c es es ≡ two.Nothing
+  unused_twice : used c es ≡ None → looked_up_in_two c es es ≡ two.Nothing
   unused_twice p = sym (either_looked_up c es es) ∙ ap (λ x. either_of x x) (unused_nothing c es p)
 
 pub twice_row : (s : List ℕ) (c : Code) (r : ℕ) → row_of_two s s c r ≡ in_first (row_request s c r)
 unfolding row_of_two fonts_of row_request sought
 twice_row s c r = go (font.reading s)
   where
-    told : (h : Header) (es : List Entry) (u : Use) → used c es ≡ u → cond (ltb r h.height) (row_in s s r (looked_up_in_two c es es)) no_row ≡ in_first (row_of_sought s r (in_font h.height u))
-    told h es (Used e) p = at (ltb r h.height)
+    told : (h : Header) (es : List Entry) (u : Option Entry) → used c es ≡ u → cond (ltb r h.height) (row_in s s r (looked_up_in_two c es es)) no_row ≡ in_first (row_of_sought s r (Ok (in_font h.height u)))
+    told h es (Some e) p = at (ltb r h.height)
       where
-        at : (b : Bool) → cond b (row_in s s r (looked_up_in_two c es es)) no_row ≡ in_first (cond b (one-row.Row (after r s e.start) e.width) bad_request)
+        at : (b : Bool) → cond b (row_in s s r (looked_up_in_two c es es)) no_row ≡ in_first (cond b (Ok (record { place = after r s e.start; width = e.width })) bad_request)
         at true = ⊎_elim (λ q. ap (row_in s s r) q) (λ q. ap (row_in s s r) q) (used_twice c es e p)
         at false = refl
-    told h es Nothing p = at (ltb r h.height)
+    told h es None p = at (ltb r h.height)
       where
         at : (b : Bool) → cond b (row_in s s r (looked_up_in_two c es es)) no_row ≡ no_row
         at true = ap (row_in s s r) (unused_twice c es p)

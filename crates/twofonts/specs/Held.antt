@@ -1,20 +1,20 @@
 -- Two fonts that were read: the lists hold them, or one of them is refused or they differ.
 -- Assumes nothing.
-use Rattle.std.specs.Prelude.{◌≡◌, true, cond, List, ℕ, ℤ}
+use Rattle.std.specs.Prelude.{◌≡◌, true, cond, List, ℕ, ℤ, Result, Ok, Err}
 use Rattle.ground.specs.Refusals.{refusal, fonts_differ}
+use Rattle.ground.specs.declared.refusals.Refusal.{Refusal}
 use Rattle.header.specs.declared.Header.{Header}
-use Rattle.reader.specs.declared.FontAnswer.{FontAnswer}
-use Rattle.reader.specs.declared.FontAnswer.TheVariants as one
+use Rattle.reader.specs.declared.FontRead.{FontRead}
 use Rattle.fontlists.specs.Held.{TwoHeld}
 use Rattle.twofonts.specs.declared.BothRead.{BothRead}
 use Rattle.twofonts.specs.declared.BothRead.TheVariants.{Read, Refused}
 use Rattle.twofonts.specs.Fonts.{alike, unfit, fonts_of}
 
 -- What both answers come to, in the order of the refusals.
-abbrev pub both_of : FontAnswer → FontAnswer → BothRead
-both_of (one.Refused r) second = Refused r
-both_of (one.Read h n) (one.Refused r) = Refused r
-both_of (one.Read h n) (one.Read k m) = cond (alike h k) (Read h n m) (Refused (refusal fonts_differ 0))
+abbrev pub both_of : Result FontRead Refusal → Result FontRead Refusal → BothRead
+both_of (Err r) second = Refused r
+both_of (Ok a) (Err r) = Refused r
+both_of (Ok a) (Ok b) = cond (alike a.header b.header) (Read a.header a.count b.count) (Refused (refusal fonts_differ 0))
 
 -- The lists hold both, of which only the first one's header is told.
 pub record Beside (s t : List ℕ) (h : Header) (n m : ℕ) (codes : List ℤ) (starts widths places : List ℕ) : Type 0 where

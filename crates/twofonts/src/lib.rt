@@ -19,12 +19,12 @@ use chars::Entry;
 use drawing::DrawAnswer;
 use fontlists::two;
 use fontlists::two::{LookedUpInTwo, Which};
-use ground::refusals::Refusal;
-use ground::{limits, refusals};
+use ground::limits;
+use ground::refusals::{Reason, Refusal};
 use header::Header;
 use index::latest;
 use lines::Cursor;
-use reader::FontAnswer;
+use reader::FontRead;
 use source::Origin;
 use subchars::Code;
 
@@ -54,34 +54,28 @@ pub enum RequestedOfTwo {
 fn are_alike(a: Header, b: Header) -> bool
     ensures { result ≡ alike a b }
 {
-    let x = a.hardblank;
-    let y = b.hardblank;
-    ground::both(a.height == b.height, x.0 == y.0)
+    a.height == b.height && a.hardblank == b.hardblank
 }
 
 // Both answers as one: the first font's refusal, the second's, then 24.
-fn both_of(a: FontAnswer, b: FontAnswer) -> BothRead
+fn both_of(a: Result<FontRead, Refusal>, b: Result<FontRead, Refusal>) -> BothRead
     ensures { result ≡ both_of a b }
 {
     match a {
-        FontAnswer::Read { header, count } => match b {
-            FontAnswer::Read {
-                header: other,
-                count: second,
-            } => {
-                if are_alike(header, other) {
+        Err(r) => BothRead::Refused(r),
+        Ok(first) => match b {
+            Err(r) => BothRead::Refused(r),
+            Ok(second) => {
+                if are_alike(first.header, second.header) {
                     return BothRead::Read {
-                        header,
-                        first: count,
-                        second,
+                        header: first.header,
+                        first: first.count,
+                        second: second.count,
                     };
                 }
-                let number = refusals::FONTS_DIFFER;
-                BothRead::Refused(Refusal { number, place: 0 })
+                BothRead::Refused(Refusal::of(Reason::FontsDiffer))
             }
-            FontAnswer::Refused(r) => BothRead::Refused(r),
         },
-        FontAnswer::Refused(r) => BothRead::Refused(r),
     }
 }
 
@@ -120,8 +114,7 @@ fn read_both(
 fn no_row() -> RequestedOfTwo
     ensures { result ≡ no_row }
 {
-    let number = refusals::BAD_SHAPE;
-    RequestedOfTwo::Refused(Refusal { number, place: 0 })
+    RequestedOfTwo::Refused(Refusal::of(Reason::BadShape))
 }
 
 // Where a row of an entry's character stands, in the font that has the entry.
@@ -254,8 +247,7 @@ fn draw_tested<'a>(
     ensures { PutOut (two_lined (length scratch.old) first.now second.now file.now text.now) (length out.old) result out.new }
 {
     if scratch.len() < limits::MIN_SCRATCH {
-        let number = refusals::AREA_TOO_SMALL;
-        return drawing::refuse(Refusal { number, place: 0 }, out);
+        return drawing::refuse(Refusal::of(Reason::AreaTooSmall), out);
     }
     draw_once(out, scratch, text, first, second, file)
 }

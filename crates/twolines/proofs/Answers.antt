@@ -10,7 +10,8 @@ use lib.Dec.{ltb}
 use lib.ListN.{length}
 use borrow.Author.Tests.{lt-ltb, le-ltb}
 use Rattle.ground.specs.Limits.{max_font_length, max_height, max_line_width, max_stack_height, max_text, min_stacked_scratch}
-use Rattle.ground.specs.Refusals.{refusal, font_too_long, area_too_small, text_too_long, line_too_wide, stack_too_high}
+use Rattle.ground.specs.Refusals.{number_of, refusal, font_too_long, area_too_small, text_too_long, line_too_wide, stack_too_high}
+use Rattle.ground.specs.declared.refusals.Reason.{Reason}
 use Rattle.ground.specs.declared.refusals.Refusal.{Refusal}
 use Rattle.ground.proofs.Tests.{or_left, or_right, below_or_not}
 use Rattle.blocks.specs.Block.{Block}
@@ -22,9 +23,9 @@ use Rattle.font.proofs.ReadingLaws.{font_read, font_refusal}
 use Rattle.flc.specs.declared.Command.{Command}
 use Rattle.flc.specs.Control as flc
 use Rattle.flc.proofs.RefusalLaws.{control-refusal}
-use Rattle.stack.specs.declared.StackAnswer.TheVariants.{Stacked, Refused}
+use Rattle.std.specs.Prelude.{Err}
 use Rattle.columns.specs.Stack.{Stack, stacked}
-use Rattle.stack.specs.StackCall.{StackTold, stack_tells, no_stack, fit_told}
+use Rattle.stack.specs.StackCall.{StackTold, stack_tells, stacking, no_stack, fit_told}
 use Rattle.columns.proofs.Demand.{overlap_smaller}
 use Rattle.source.specs.declared.Counts.{Counts}
 use Rattle.source.specs.Counting.{no_counts}
@@ -66,12 +67,12 @@ module _ (size : ℕ) (s control upper lower : List ℕ) (room : ℕ) where
   -- place 0; otherwise overlap, height and width.
   pub data LinesTo : StackTold → Type 0 where
     scratch_small : size < min_stacked_scratch → LinesTo (no_stack area_too_small)
-    font_refused : min_stacked_scratch ≤ size → (r : Refusal) → font.reading s ≡ font.refuses r → LinesTo (stack_tells (Refused r))
-    control-refused : min_stacked_scratch ≤ size → (h : Header) (es : List Entry) → font.reading s ≡ font.says h es → (r : Refusal) → flc.control control ≡ flc.refuses r → LinesTo (stack_tells (Refused r))
+    font_refused : min_stacked_scratch ≤ size → (r : Refusal) → font.reading s ≡ font.refuses r → LinesTo (stack_tells (Err r))
+    control-refused : min_stacked_scratch ≤ size → (h : Header) (es : List Entry) → font.reading s ≡ font.says h es → (r : Refusal) → flc.control control ≡ flc.refuses r → LinesTo (stack_tells (Err r))
     text_too_long_lem : FilesRead → (max_text < length upper) ⊎ (max_text < length lower) → LinesTo (no_stack text_too_long)
     line_too_wide_lem : (x : FilesRead) → length upper ≤ max_text → length lower ≤ max_text → (max_line_width < (line_by x upper).width) ⊎ (max_line_width < (line_by x lower).width) → LinesTo (no_stack line_too_wide)
     output-small : (x : FilesRead) → LinesFit x → room < lines_size (stack_by x) → LinesTo (no_stack area_too_small)
-    stacks : (x : FilesRead) → LinesFit x → lines_size (stack_by x) ≤ room → LinesTo (stack_tells (Stacked (stack_by x).overlap (stack_by x).height (stack_by x).block.width))
+    stacks : (x : FilesRead) → LinesFit x → lines_size (stack_by x) ≤ room → LinesTo (stack_tells (stacking (stack_by x).overlap (stack_by x).height (stack_by x).block.width))
 
   abbrev pub both : TwoLines
   both = draw_lines size s control upper lower
@@ -79,12 +80,12 @@ module _ (size : ℕ) (s control upper lower : List ℕ) (room : ℕ) where
   abbrev pub answer : StackTold
   answer = lines_told both room
 
-  refused-by : (r : Refusal) → both ≡ no_lines r → answer ≡ stack_tells (Refused r)
+  refused-by : (r : Refusal) → both ≡ no_lines r → answer ≡ stack_tells (Err r)
   unfolding lines_told
   refused-by r e = ap (λ (t : TwoLines). lines_told t room) e
 
   -- a refusal of a file is that of the upper text
-  file_refused : min_stacked_scratch ≤ size → (r : Refusal) → lined_of s control upper ≡ unlined r → answer ≡ stack_tells (Refused r)
+  file_refused : min_stacked_scratch ≤ size → (r : Refusal) → lined_of s control upper ≡ unlined r → answer ≡ stack_tells (Err r)
   file_refused u r e = refused-by r (lines_enough s control upper lower size u ∙ upper_refused s control upper lower r e)
 
   module _ (x : FilesRead) where
@@ -135,7 +136,7 @@ module _ (size : ℕ) (s control upper lower : List ℕ) (room : ℕ) where
     unfolding fit_told
     no_room m = rw (le-ltb max_stack_height (stack_by x).height few-rows, lt-ltb room (lines_size (stack_by x)) m)
 
-    enough_room : lines_size (stack_by x) ≤ room → fit_told (stack_by x) (lines_size (stack_by x)) room ≡ stack_tells (Stacked (stack_by x).overlap (stack_by x).height (stack_by x).block.width)
+    enough_room : lines_size (stack_by x) ≤ room → fit_told (stack_by x) (lines_size (stack_by x)) room ≡ stack_tells (stacking (stack_by x).overlap (stack_by x).height (stack_by x).block.width)
     unfolding fit_told
     enough_room m = rw (le-ltb max_stack_height (stack_by x).height few-rows, le-ltb room (lines_size (stack_by x)) m)
 
@@ -185,15 +186,15 @@ module _ (size : ℕ) (s control upper lower : List ℕ) (room : ℕ) where
 
   -- What a refusal tells: a number from 1 to 16, at a place of the font or of the control file, or at the end of one.
   pub record RefusalWithin (t : StackTold) : Type 0 where
-    pub number_from_1 : font_too_long ≤ t.number
-    pub number_to_16 : t.number ≤ line_too_wide
+    pub number_from_1 : number_of font_too_long ≤ t.number
+    pub number_to_16 : t.number ≤ number_of line_too_wide
     pub place_in_file : (t.place ≤ length s) ⊎ (t.place ≤ length control)
     pub place-small : t.place ≤ max_font_length
 
   pub refused-tells : answer.refused ≡ true → RefusalWithin answer
   refused-tells e = go answer one_of e
     where
-      at_0 : (n : ℕ) → font_too_long ≤ n → n ≤ line_too_wide → RefusalWithin (no_stack n)
+      at_0 : (n : Reason) → number_of font_too_long ≤ number_of n → number_of n ≤ number_of line_too_wide → RefusalWithin (no_stack n)
       at_0 n u v = record { number_from_1 = u; number_to_16 = v; place_in_file = inl (omega arith); place-small = omega arith }
 
       go : (t : StackTold) → LinesTo t → t.refused ≡ true → RefusalWithin t
@@ -214,7 +215,7 @@ module _ (size : ℕ) (s control upper lower : List ℕ) (room : ℕ) where
     pub files : FilesRead
     pub fit : LinesFit files
     pub room_enough : lines_size (stack_by files) ≤ room
-    pub told : t ≡ stack_tells (Stacked (stack_by files).overlap (stack_by files).height (stack_by files).block.width)
+    pub told : t ≡ stack_tells (stacking (stack_by files).overlap (stack_by files).height (stack_by files).block.width)
 
   pub success_tells : answer.refused ≡ false → StackTells answer
   success_tells e = go answer one_of e
@@ -246,7 +247,7 @@ module _ (size : ℕ) (s control upper lower : List ℕ) (room : ℕ) where
           ap (λ (b : Bool). cond b no_counts n) (sym (ap (λ (t : TwoLines). (lines_told t room).refused) p) ∙ e)
 
   -- "18 cannot come."
-  pub never_18 : answer.number ≡ stack_too_high → ⊥
+  pub never_18 : answer.number ≡ number_of stack_too_high → ⊥
   never_18 e = go answer.refused refl
     where
       go : (b : Bool) → answer.refused ≡ b → ⊥
@@ -254,7 +255,7 @@ module _ (size : ℕ) (s control upper lower : List ℕ) (room : ℕ) where
       go false r = omega (arith, e, ap (λ (t : StackTold). t.number) (success_tells r).told)
 
   -- The overlap is at most the greatest Height; the two lines are at most 64 rows high and 1,000 columns wide.
-  pub lines_within : (o h w : ℕ) → stack_tells (Stacked o h w) ≡ answer → (o ≤ max_height) × (h ≤ max_stack_height) × (w ≤ max_line_width)
+  pub lines_within : (o h w : ℕ) → stack_tells (stacking o h w) ≡ answer → (o ≤ max_height) × (h ≤ max_stack_height) × (w ≤ max_line_width)
   unfolding stacked
   lines_within o h w e =
       let is = success_tells (sym (ap (λ (t : StackTold). t.refused) e)) in

@@ -1,4 +1,5 @@
 -- The laws of two lines.
+pub mod Numbers
 pub mod OutputLaws
 pub mod LinesLaws
 pub mod Answers

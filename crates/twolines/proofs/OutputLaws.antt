@@ -1,35 +1,30 @@
 -- What is put out of the two areas is what the two lines come to, and what each refusal leaves.
 -- Assumes nothing.
 use mathlib.Core.Path.{◌≡◌, refl, sym, ◌∙◌, ap, ap₂, subst}
-use mathlib.Core.Bool.{Bool, true, false, cond, ◌||◌}
+use mathlib.Core.Bool.{Bool, false, cond, ◌||◌}
 use mathlib.Core.List.{List, ◌++◌}
-use Prim.Native.Nat.{ℕ, ◌+◌, ◌-◌, ◌≤◌, ◌<◌}
+use Prim.Native.Nat.{ℕ, ◌+◌, ◌-◌, ◌≤◌}
 use native.Mathlib.Omega.{arith}
-use native.Mathlib.Nat.{mul-le-mul_right}
 use lib.Dec.{ltb}
-use lib.ListN.{length}
-use borrow.Author.Tests.{lt-ltb, le-ltb}
+use borrow.Author.Tests.{le-ltb}
+use Rattle.std.specs.Prelude.{Result, Ok, Err}
 use Rattle.ground.specs.Area.{zeros}
-use Rattle.ground.specs.Limits.{max_line_width, max_height, min_scratch}
+use Rattle.ground.specs.Limits.{max_line_width}
 use Rattle.ground.specs.Refusals.{refusal, line_too_wide}
 use Rattle.ground.specs.declared.refusals.Refusal.{Refusal}
-use Rattle.ground.proofs.Tests.{or_left, or_right}
 use Rattle.subchars.specs.declared.Code.{Code}
-use Rattle.subchars.specs.declared.Direction.{Direction}
-use Rattle.subchars.specs.declared.Direction.TheVariants.{LeftToRight, RightToLeft}
 use Rattle.subchars.specs.declared.Mode.{Mode}
 use Rattle.subchars.specs.declared.VerticalLayout.{VerticalLayout}
 use Rattle.subchars.specs.Hardblank.{blank}
 use Rattle.lanes.proofs.Blanking.{nothing_hard}
 use Rattle.blocks.specs.Block.{Block, rows_of}
-use Rattle.blocks.proofs.Rows.{rows_cong, row_room}
+use Rattle.blocks.proofs.Rows.{rows_cong}
 use Rattle.showing.specs.Output.{shown_at, shown}
-use Rattle.showing.specs.Scratch.{line_start}
+use Rattle.showing.specs.Scratch.{scratch_line}
 use Rattle.columns.specs.declared.Placed.{Placed}
-use Rattle.stack.specs.declared.StackAnswer.{StackAnswer}
-use Rattle.stack.specs.declared.StackAnswer.TheVariants as stack_is
+use Rattle.stack.specs.declared.Stacked.{Stacked}
 use Rattle.columns.specs.Stack.{Stack, stacked}
-use Rattle.columns.specs.Placing.{placed_block, PlacedIn, with_end}
+use Rattle.columns.specs.Placing.{placed_block, with_end}
 use Rattle.stack.specs.StackCall.{StackTold, stack_tells, fit_told, area_after, PutStack}
 use Rattle.stack.proofs.Likeness.{stacked-like, put_like}
 use Rattle.source.specs.declared.Counts.{Counts}
@@ -57,34 +52,17 @@ shown-rows s =
     λ r k u v. ap (λ (x : ℕ). cond (ltb k s.block.width) x 10) (sym (nothing_hard (s.block.cells r k)))
 
 -- The answer of stacking, with the counts beside it.
-beside : (n : Counts) (x : StackAnswer) → counts_beside n x ≡ cond (stack_tells x).refused no_counts n
-beside n (stack_is.Stacked o h w) = refl
-beside n (stack_is.Refused r) = refl
+beside : (n : Counts) (x : Result Stacked Refusal) → counts_beside n x ≡ cond (stack_tells x).refused no_counts n
+beside n (Ok s) = refl
+beside n (Err r) = refl
 
-put_shown : (s : Stack) (n : Counts) (room : ℕ) (x : StackAnswer) (r : LinesAnswer) (out : List ℕ) → stack_part r ≡ x → counts_part r ≡ counts_beside n x → PutStack s 1 room x out → LinesOut (two_lines s n) room r out
+put_shown : (s : Stack) (n : Counts) (room : ℕ) (x : Result Stacked Refusal) (r : LinesAnswer) (out : List ℕ) → stack_part r ≡ x → counts_part r ≡ counts_beside n x → PutStack s 1 room x out → LinesOut (two_lines s n) room r out
 unfolding lines_told lines_counts lines_bytes lines_output
 put_shown s n room x r out e f p =
     record {
       answer = ap stack_tells e ∙ p.answer;
       counts = f ∙ beside n x ∙ ap (λ (t : StackTold). cond t.refused no_counts n) p.answer;
       output = p.area ∙ ap (λ (b : List ℕ). area_after (fit_told s (lines_size s) room) b room) (shown-rows s);
-    }
-
--- Where a line lies in its area.
-abbrev pub place_of : Direction → ℕ → ℕ → Placed
-place_of d w h = record { base = line_start d w; stride = max_line_width; width = w; height = h }
-
-start-room : (d : Direction) (w : ℕ) → w ≤ max_line_width → line_start d w + w ≤ max_line_width
-start-room LeftToRight w u = omega arith
-start-room RightToLeft w u = omega arith
-
-pub placed_in : (d : Direction) (w h : ℕ) (area : List ℕ) → w ≤ max_line_width → 1 ≤ h → h ≤ max_height → min_scratch ≤ length area → PlacedIn area (place_of d w h)
-placed_in d w h area u one few long =
-    record {
-      some-rows = one;
-      high = omega arith;
-      wide = u;
-      within = λ r v. omega (arith, row_room r h max_line_width v, mul-le-mul_right max_line_width few, start-room d w u);
     }
 
 -- What is missing in two texts is what is missing in one behind the other.
@@ -124,23 +102,18 @@ module _ (y : Mode) (vertical : VerticalLayout) (h : ℕ) (source : Source) (us 
   as_lines : (t : TwoLines) → both ≡ t → LinesOut t room r out → LinesOut both room r out
   as_lines t e p = subst (λ (x : TwoLines). LinesOut x room r out) (sym e) p
 
-  pub upper_wide : max_line_width < n → LinesOut (no_lines (refusal line_too_wide 0)) room r out → LinesOut both room r out
-  upper_wide u = as_lines _ (by_width true (or_left (ltb max_line_width a.width) (ltb max_line_width b.width) (lt-ltb max_line_width a.width (first.line.beyond u))))
-
-  pub lower_wide : max_line_width < m → LinesOut (no_lines (refusal line_too_wide 0)) room r out → LinesOut both room r out
-  lower_wide u = as_lines _ (by_width true (or_right (ltb max_line_width a.width) (ltb max_line_width b.width) (lt-ltb max_line_width b.width (second.line.beyond u))))
-
   module _ (u : n ≤ max_line_width) (v : m ≤ max_line_width) where
     narrow : (ltb max_line_width a.width || ltb max_line_width b.width) ≡ false
     narrow =
         ap₂ ◌||◌ (le-ltb max_line_width a.width (omega (arith, (first.line.within u).width))) (le-ltb max_line_width b.width (omega (arith, (second.line.within v).width)))
 
-    pub both_put : (p q : Placed) → p ≡ place_of y.direction n h → q ≡ place_of y.direction m h → (x : StackAnswer) → stack_part r ≡ x → (c : Counts) → BothCounted source us ls d c → counts_part r ≡ counts_beside c x →
-        PutStack (stacked vertical y.hardblank.0 p.height (placed_block upper p) q.height (placed_block lower q)) 1 room x out → LinesOut both room r out
+    pub both_put : (p q : Placed) → (p.height ≡ h) × (placed_block p ≡ scratch_line y.direction n upper) → (q.height ≡ h) × (placed_block q ≡ scratch_line y.direction m lower) →
+        (x : Result Stacked Refusal) → stack_part r ≡ x → (c : Counts) → BothCounted source us ls d c → counts_part r ≡ counts_beside c x →
+        PutStack (stacked vertical y.hardblank.0 p.height (placed_block p) q.height (placed_block q)) 1 room x out → LinesOut both room r out
     both_put p q e f x i c k l g =
         as_lines _ (by_width false narrow)
         (put_shown (stacked vertical y.hardblank.0 h a h b) counts room x r out i (l ∙ ap (λ (z : Counts). counts_beside z x) (k.counts u v))
-        (put_like (stacked vertical y.hardblank.0 h (placed_block upper (place_of y.direction n h)) h (placed_block lower (place_of y.direction m h))) (stacked vertical y.hardblank.0 h a h b)
-        (stacked-like vertical y.hardblank.0 h (placed_block upper (place_of y.direction n h)) a h (placed_block lower (place_of y.direction m h)) b (first.line.within u) (second.line.within v)) 1 room x out
-        (subst (λ (w : Placed). PutStack (stacked vertical y.hardblank.0 h (placed_block upper (place_of y.direction n h)) w.height (placed_block lower w)) 1 room x out) f
-        (subst (λ (w : Placed). PutStack (stacked vertical y.hardblank.0 w.height (placed_block upper w) q.height (placed_block lower q)) 1 room x out) e g))))
+        (put_like (stacked vertical y.hardblank.0 h (scratch_line y.direction n upper) h (scratch_line y.direction m lower)) (stacked vertical y.hardblank.0 h a h b)
+        (stacked-like vertical y.hardblank.0 h (scratch_line y.direction n upper) a h (scratch_line y.direction m lower) b (first.line.within u) (second.line.within v)) 1 room x out
+        (subst (λ (s : Stack). PutStack s 1 room x out)
+        (ap₂ (λ (k : ℕ) (z : Block). stacked vertical y.hardblank.0 k z q.height (placed_block q)) e.0 e.1 ∙ ap₂ (λ (k : ℕ) (z : Block). stacked vertical y.hardblank.0 h (scratch_line y.direction n upper) k z) f.0 f.1) g)))

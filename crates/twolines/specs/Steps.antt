@@ -1,14 +1,14 @@
 -- Two texts drawn into the halves of a scratch area.
 -- Assumes nothing.
-use Rattle.std.specs.Prelude.{◌≡◌, ℕ, ◌≤◌, List, take, drop}
+use Rattle.std.specs.Prelude.{◌≡◌, ℕ, ◌≤◌, List, take, drop, Result, Ok, Err}
 use Rattle.ground.specs.Limits.{max_line_width, min_scratch}
+use Rattle.ground.specs.declared.refusals.Refusal.{Refusal}
 use Rattle.subchars.specs.declared.Code.{Code}
 use Rattle.subchars.specs.declared.Mode.{Mode}
 use Rattle.source.specs.declared.Counts.{Counts}
 use Rattle.source.specs.Source.{Source}
 use Rattle.source.specs.Counting.{no_counts, counts_of}
-use Rattle.stack.specs.declared.StackAnswer.{StackAnswer}
-use Rattle.stack.specs.declared.StackAnswer.TheVariants.{Stacked, Refused}
+use Rattle.stack.specs.declared.Stacked.{Stacked}
 use Rattle.drawing.specs.Steps.{TextDrawn}
 use Rattle.twolines.specs.declared.DrawnTexts.{DrawnTexts}
 use Rattle.twolines.specs.TwoLines.{both_counts}
@@ -23,6 +23,6 @@ pub record BothCounted (source : Source) (us ls : List Code) (d : DrawnTexts) (n
   pub counts : d.upper.width ≤ max_line_width → d.lower.width ≤ max_line_width → n ≡ both_counts (counts_of source us) (counts_of source ls)
 
 -- The counts beside an answer of stacking.
-abbrev pub counts_beside : Counts → StackAnswer → Counts
-counts_beside n (Stacked o h w) = n
-counts_beside n (Refused r) = no_counts
+abbrev pub counts_beside : Counts → Result Stacked Refusal → Counts
+counts_beside n (Ok s) = n
+counts_beside n (Err r) = no_counts

@@ -1,6 +1,6 @@
 -- Two lines of text drawn by one font and stacked: document 02, Q-1. "Site name above, device name below, closed up as the font says."
 -- Assumes nothing.
-use Rattle.std.specs.Prelude.{◌≡◌, ℕ, ◌+◌, ◌*◌, cond, ◌||◌, List, [], ltb}
+use Rattle.std.specs.Prelude.{◌≡◌, ℕ, ◌+◌, ◌*◌, cond, ◌||◌, List, [], ltb, Option, Some, None, Result, Err}
 use Rattle.ground.specs.Limits.{max_line_width, min_stacked_scratch}
 use Rattle.ground.specs.Refusals.{refusal, area_too_small, line_too_wide}
 use Rattle.ground.specs.declared.refusals.Refusal.{Refusal}
@@ -8,14 +8,11 @@ use Rattle.subchars.specs.declared.VerticalLayout.{VerticalLayout}
 use Rattle.subchars.specs.declared.VerticalLayout.TheVariants.{FullHeight}
 use Rattle.subchars.specs.Layouts.{full_vertical}
 use Rattle.subchars.specs.Hardblank.{blank}
-use Rattle.header.specs.declared.Given.{Given}
-use Rattle.header.specs.declared.Given.TheVariants.{Absent, Of}
 use Rattle.font.specs.Font as font
 use Rattle.showing.specs.Output.{shown}
-use Rattle.stack.specs.declared.StackAnswer.{StackAnswer}
-use Rattle.stack.specs.declared.StackAnswer.TheVariants.{Stacked, Refused}
+use Rattle.stack.specs.declared.Stacked.{Stacked}
 use Rattle.columns.specs.Stack.{Stack, stacked}
-use Rattle.stack.specs.StackCall.{StackTold, stack_tells, fit_told, area_after}
+use Rattle.stack.specs.StackCall.{StackTold, stack_tells, stacking, fit_told, area_after}
 use Rattle.source.specs.declared.Counts.{Counts}
 use Rattle.source.specs.Counting.{no_counts}
 use Rattle.drawing.specs.Drawing.{Lined, lined, unlined, lined_of}
@@ -23,9 +20,9 @@ use Rattle.twolines.specs.declared.LinesAnswer.{LinesAnswer}
 use Rattle.twolines.specs.declared.LinesAnswer.TheVariants as lines
 
 -- "Vertical full height (also without Full_Layout)."
-abbrev pub vertical_of : Given → VerticalLayout
-vertical_of Absent = FullHeight
-vertical_of (Of full) = full_vertical full
+abbrev pub vertical_of : Option ℕ → VerticalLayout
+vertical_of None = FullHeight
+vertical_of (Some full) = full_vertical full
 
 -- The vertical layout of a font that is read.
 abbrev pub font_vertical : font.FontReading → VerticalLayout
@@ -63,7 +60,7 @@ lines_shown s = shown blank s.height s.block
 
 -- Then 9 for the output. What the two lines come to in an output of the given room, and the bytes at its start.
 unfoldable pub lines_told : TwoLines → ℕ → StackTold
-lines_told (no_lines r) room = stack_tells (Refused r)
+lines_told (no_lines r) room = stack_tells (Err r)
 lines_told (two_lines s n) room = fit_told s (lines_size s) room
 
 -- 02, Q-2: the two counts over both texts. A refusal tells 0 and 0.
@@ -80,9 +77,9 @@ unfoldable pub lines_output : TwoLines → ℕ → List ℕ
 lines_output t room = area_after (lines_told t room) (lines_bytes t) room
 
 -- What an answer tells of the stack, and of the counts.
-abbrev pub stack_part : LinesAnswer → StackAnswer
-stack_part (lines.Drawn o h w n) = Stacked o h w
-stack_part (lines.Refused r) = Refused r
+abbrev pub stack_part : LinesAnswer → Result Stacked Refusal
+stack_part (lines.Drawn o h w n) = stacking o h w
+stack_part (lines.Refused r) = Err r
 
 abbrev pub counts_part : LinesAnswer → Counts
 counts_part (lines.Drawn o h w n) = n

@@ -2,25 +2,26 @@
 #![tactic(auto)]
 
 ghost use Rattle.std.specs.Prelude.{◌≡◌, List, ℕ, ◌≤◌, length};
-ghost use Rattle.ground.specs.Limits.{max_line_width, max_height, max_text, min_stacked_scratch};
-ghost use Rattle.showing.specs.Scratch.{line_start};
+ghost use Rattle.ground.specs.Limits.{max_line_width, max_height, max_text, min_scratch, min_stacked_scratch};
+ghost use Rattle.showing.specs.Scratch.{scratch_line};
 ghost use Rattle.mapping.specs.Passing.{ControlHeld};
 ghost use Rattle.subchars.specs.declared.Code.{Code};
 ghost use Rattle.subchars.specs.declared.Mode.{Mode};
 ghost use Rattle.source.specs.Source.{Source};
 ghost use Rattle.source.specs.Held.{Gives};
 ghost use Rattle.fontlists.specs.Held.{FontHeld};
+ghost use Rattle.columns.specs.Placing.{placed_block};
 ghost use Rattle.drawing.specs.Drawing.{text_codes, lined_text};
 ghost use Rattle.twolines.specs.Steps.{BothDrawn, BothCounted, counts_beside};
 ghost use Rattle.twolines.specs.TwoLines.{vertical_of, TwoLines, closed_up, lines_of, stack_part, counts_part, LinesOut};
 
 use columns::Placed;
 use drawing::DrawnText;
-use ground::refusals::Refusal;
-use ground::{limits, refusals};
-use header::{Given, Header};
+use ground::limits;
+use ground::refusals::{Reason, Refusal};
+use header::Header;
 use source::{Counts, Origin};
-use stack::{StackAnswer, stacking};
+use stack::{Stacked, stacking};
 use subchars::{Direction, Mode, VerticalLayout};
 
 // What drawing two texts answers: at which overlap the lines are closed up, how high and wide both are, and the counts over both texts; or a refusal.
@@ -43,52 +44,49 @@ pub struct DrawnTexts {
 }
 
 // The vertical layout of a header: full height where Full_Layout is absent.
-fn vertical_of(given: Given) -> VerticalLayout
+fn vertical_of(given: Option<usize>) -> VerticalLayout
     ensures { result ≡ vertical_of given }
 {
     match given {
-        Given::Absent => VerticalLayout::FULL_HEIGHT,
-        Given::Of(full) => VerticalLayout::from_full(full),
+        None => VerticalLayout::FULL_HEIGHT,
+        Some(full) => VerticalLayout::from_full(full),
     }
 }
 
 // A refusal, with zeros all through the output.
-pub fn refuse(number: usize, place: usize, out: &mut [u8]) -> LinesAnswer
-    ensures { LinesOut (TwoLines.no_lines (record { number = number; place = place })) (length out.old) result out.new }
+pub fn refuse(refusal: Refusal, out: &mut [u8]) -> LinesAnswer
+    ensures { LinesOut (TwoLines.no_lines refusal) (length out.old) result out.new }
 {
     ground::zero_from(out, 0);
-    LinesAnswer::Refused(Refusal { number, place })
+    LinesAnswer::Refused(refusal)
 }
 
-// Where a drawn line w wide lies in its area.
-fn line_place(direction: Direction, w: usize, height: usize) -> Placed
-    requires { w ≤ max_line_width }
-    ensures { result ≡ record { base = line_start direction w; stride = max_line_width; width = w; height = height } }
+// Where a drawn line lies in its area.
+fn line_in<'a>(area: &'a [u8], direction: Direction, width: usize, height: usize) -> Placed<'a>
+    requires { (width ≤ max_line_width) × (1 ≤ height) × (height ≤ max_height) × (min_scratch ≤ length area.now) }
+    ensures { (result.height ≡ height) × (placed_block result ≡ scratch_line direction width area.entry.now) }
 {
     Placed {
-        base: showing::line_start(direction, w),
+        bytes: area,
+        base: showing::line_start(direction, width),
         stride: limits::MAX_LINE_WIDTH,
-        width: w,
+        width,
         height,
     }
 }
 
 // The counts beside the answer of stacking; none beside a refusal.
-fn with_counts(counts: Counts, answer: StackAnswer) -> LinesAnswer
+fn with_counts(counts: Counts, answer: Result<Stacked, Refusal>) -> LinesAnswer
     ensures { (stack_part result ≡ answer) × (counts_part result ≡ counts_beside counts answer) }
 {
     match answer {
-        StackAnswer::Stacked {
-            overlap,
-            height,
-            width,
-        } => LinesAnswer::Drawn {
-            overlap,
-            height,
-            width,
+        Ok(stacked) => LinesAnswer::Drawn {
+            overlap: stacked.overlap,
+            height: stacked.height,
+            width: stacked.width,
             counts,
         },
-        StackAnswer::Refused(r) => LinesAnswer::Refused(r),
+        Err(r) => LinesAnswer::Refused(r),
     }
 }
 
@@ -105,22 +103,15 @@ fn put_lines(
     requires { (1 ≤ height) × (height ≤ max_height) × (min_stacked_scratch ≤ length scratch.now) }
     ensures { (source : Source) (us ls : List Code) → BothDrawn mode height source us ls drawn scratch.now → BothCounted source us ls drawn counts → LinesOut (closed_up vertical (lined_text mode height source us) (lined_text mode height source ls)) (length out.old) result out.new }
 {
-    let a = drawn.upper;
-    let b = drawn.lower;
-    if limits::MAX_LINE_WIDTH < a.width {
-        return refuse(refusals::LINE_TOO_WIDE, 0, out);
+    let u = drawn.upper.width;
+    let l = drawn.lower.width;
+    if limits::MAX_LINE_WIDTH < u || limits::MAX_LINE_WIDTH < l {
+        return refuse(Refusal::of(Reason::LineTooWide), out);
     }
-    if limits::MAX_LINE_WIDTH < b.width {
-        return refuse(refusals::LINE_TOO_WIDE, 0, out);
-    }
-    let direction = mode.direction;
-    let hardblank = mode.hardblank;
-    let u = line_place(direction, a.width, height);
-    let l = line_place(direction, b.width, height);
-    let half = limits::MIN_SCRATCH;
-    let upper = &scratch[..half];
-    let lower = &scratch[half..];
-    let answer = stacking::put_stack(out, 1, vertical, hardblank, upper, u, lower, l);
+    let (first, second) = scratch.split_at(limits::MIN_SCRATCH);
+    let upper = line_in(first, mode.direction, u, height);
+    let lower = line_in(second, mode.direction, l, height);
+    let answer = stacking::put_stack(out, true, vertical, mode.hardblank, upper, lower);
     with_counts(counts, answer)
 }
 
@@ -209,9 +200,7 @@ fn count_both(
     requires missing_le_max_text { (drawn.upper.missing ≤ max_text) × (drawn.lower.missing ≤ max_text) }
     ensures { (source : Source) → Gives source font.now font.now height origin codes.now starts.now widths.now places.now → (mode : Mode) (us ls : List Code) (scratch : List ℕ) → BothDrawn mode height source us ls drawn scratch → BothCounted source us ls drawn result }
 {
-    let a = drawn.upper;
-    let b = drawn.lower;
-    let missing = a.missing + b.missing;
+    let missing = drawn.upper.missing + drawn.lower.missing;
     source::counts_of(
         missing, font, font, height, origin, codes, starts, widths, places,
     )
@@ -241,11 +230,8 @@ pub fn draw_texts(
     requires min_stacked_scratch_in_bounds { min_stacked_scratch ≤ length scratch.old }
     ensures { (control : List ℕ) → ControlHeld control commands stages.now firsts.now lasts.now news.now → LinesOut (lines_of font.now control upper.now lower.now) (length out.old) result out.new }
 {
-    if limits::MAX_TEXT < upper.len() {
-        return refuse(refusals::TEXT_TOO_LONG, 0, out);
-    }
-    if limits::MAX_TEXT < lower.len() {
-        return refuse(refusals::TEXT_TOO_LONG, 0, out);
+    if limits::MAX_TEXT < upper.len() || limits::MAX_TEXT < lower.len() {
+        return refuse(Refusal::of(Reason::TextTooLong), out);
     }
     let mode = drawing::mode_of(header);
     let height = header.height;

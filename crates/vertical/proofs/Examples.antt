@@ -2,7 +2,7 @@
 -- Assumes nothing.
 use mathlib.Core.Path.{◌≡◌, refl}
 use mathlib.Core.List.{List, [], ◌∷◌}
-use mathlib.Core.Option.{Option, none, some}
+use Rattle.std.specs.Prelude.{Option, Some, None}
 use Prim.Native.Nat.{ℕ}
 use Prim.Native.Char.{Char}
 use Rattle.ground.specs.Text.{byte}
@@ -19,10 +19,10 @@ pub record Example : Type 0 where
   pub becomes : Option ℕ
 
 abbrev joins : VerticalLayout → Char → Char → Char → Example
-joins layout u l x = record { layout = layout; upper = byte u; lower = byte l; becomes = some (byte x) }
+joins layout u l x = record { layout = layout; upper = byte u; lower = byte l; becomes = Some (byte x) }
 
 abbrev apart : VerticalLayout → Char → Char → Example
-apart layout u l = record { layout = layout; upper = byte u; lower = byte l; becomes = none }
+apart layout u l = record { layout = layout; upper = byte u; lower = byte l; becomes = None }
 
 abbrev by : ℕ → VerticalLayout
 by set = Smushing (Controlled set)

@@ -4,7 +4,7 @@ use mathlib.Core.Path.{◌≡◌, refl, sym, ◌∙◌, ap, ap₂}
 use mathlib.Core.Bool.{Bool, true, false, cond, ◌||◌, false≢true}
 use mathlib.Core.List.{List, [], ◌∷◌, ◌++◌}
 use mathlib.Core.Logic.{◌⊎◌, inl, inr, ⊎_elim}
-use mathlib.Core.Option.{Option, none, some, get_or}
+use Rattle.std.specs.Prelude.{Option, Some, None, unwrap_or}
 use Prim.Native.Nat.{ℕ, suc, ◌+◌, ◌/◌, ◌%◌}
 use native.Mathlib.Omega.{arith}
 use lib.Dec.{eqb}
@@ -29,16 +29,16 @@ controlled_by set = Smushing (Controlled set)
 -- ------------------------------------------------------------------ blanks
 
 module _ (layout : VerticalLayout) (u l : ℕ) where
-  upper_yields : u ≡ blank → merge layout u l ≡ some l
+  upper_yields : u ≡ blank → merge layout u l ≡ Some l
   unfolding merge
   upper_yields e = rw (eq-eqb u blank e)
 
-  lower_yields : l ≡ blank → merge layout u l ≡ some u
+  lower_yields : l ≡ blank → merge layout u l ≡ Some u
   unfolding merge
   lower_yields e = rw (eq-eqb l blank e) (go (eqb u blank) refl)
     where
-      go : (t : Bool) → eqb u blank ≡ t → cond t (some l) (some u) ≡ some u
-      go true s = let q : l ≡ u = e ∙ sym (eqb-true u blank s) in ap (λ (x : ℕ). some x) q
+      go : (t : Bool) → eqb u blank ≡ t → cond t (Some l) (Some u) ≡ Some u
+      go true s = let q : l ≡ u = e ∙ sym (eqb-true u blank s) in ap (λ (x : ℕ). Some x) q
       go false s = refl
 
   -- "A blank yields to its partner", in every layout.
@@ -80,7 +80,7 @@ pub full_height_merges : (u l : ℕ) → merges FullHeight u l ≡ (eqb u blank 
 unfolding merges merge is_some
 full_height_merges u l = go (eqb u blank) (eqb l blank)
   where
-    go : (s t : Bool) → is_some (cond s (some l) (cond t (some u) none)) ≡ (s || t)
+    go : (s t : Bool) → is_some (cond s (Some l) (cond t (Some u) None)) ≡ (s || t)
     go true t = refl
     go false true = refl
     go false false = refl
@@ -94,7 +94,7 @@ pub universal-merges : (u l : ℕ) → merges (Smushing Universal) u l ≡ true
 unfolding merges merge is_some
 universal-merges u l = go (eqb u blank) (eqb l blank)
   where
-    go : (s t : Bool) → is_some (cond s (some l) (cond t (some u) (some l))) ≡ true
+    go : (s t : Bool) → is_some (cond s (Some l) (cond t (Some u) (Some l))) ≡ true
     go true t = refl
     go false true = refl
     go false false = refl
@@ -104,7 +104,7 @@ pub universal_lower_stands : (u l : ℕ) → (l ≡ blank → ⊥) → merged_by
 unfolding merged_byte merge
 universal_lower_stands u l n = rw (ne_eqb l blank n) (go (eqb u blank))
   where
-    go : (t : Bool) → get_or (cond t (some l) (some l)) 0 ≡ l
+    go : (t : Bool) → unwrap_or (cond t (Some l) (Some l)) 0 ≡ l
     go true = refl
     go false = refl
 
@@ -128,7 +128,7 @@ back horizontal.Hardblank = VerticalLine
 
 -- a hyphen and an underscore are for 2048
 abbrev OnlyLine : ℕ → ℕ → Type 0
-OnlyLine u l = (p : VerticalRule) (x : ℕ) → rule_merges p u l ≡ some x → p ≡ HorizontalLine
+OnlyLine u l = (p : VerticalRule) (x : ℕ) → rule_merges p u l ≡ Some x → p ≡ HorizontalLine
 
 only_line : OnlyLine (byte "-") (byte "_")
 unfolding joined_if or_else equal_character underscore hierarchy class_of two_bars
@@ -146,7 +146,7 @@ only_line' Hierarchy y e = clash cc
 only_line' HorizontalLine y e = refl
 only_line' VerticalLine y e = clash cc
 
-line_only : (u l x : ℕ) → horizontal_line u l ≡ some x → OnlyLine u l
+line_only : (u l x : ℕ) → horizontal_line u l ≡ Some x → OnlyLine u l
 unfolding horizontal_line
 line_only u l x e =
     or_elim (reads "-_" u l) (reads "-_" l u) (joined_if_lem (either_order "-_" u l) (byte "=") (is-some _ x e))
@@ -162,18 +162,18 @@ module _ (u l : ℕ) where
   seen o = rw (ne_eqb u other (λ e. omega arith), ne_eqb l other (λ e. omega arith))
 
   -- one of the four is 2048, or a horizontal rule
-  which : (p : VerticalRule) (x : ℕ) → (p ≡ VerticalLine → ⊥) → rule_merges p u l ≡ some x → (p ≡ HorizontalLine) ⊎ ((horizontal-rules.by_rule (across p) other u l ≡ some x) × (p ≡ back (across p)))
+  which : (p : VerticalRule) (x : ℕ) → (p ≡ VerticalLine → ⊥) → rule_merges p u l ≡ Some x → (p ≡ HorizontalLine) ⊎ ((horizontal-rules.by_rule (across p) other u l ≡ Some x) × (p ≡ back (across p)))
   which EqualCharacter x i a = inr (seen (equal_character u l) ∙ a, refl)
   which Underscore x i a = inr (seen (underscore u l) ∙ a, refl)
   which Hierarchy x i a = inr (seen (hierarchy u l) ∙ a, refl)
   which HorizontalLine x i a = inl refl
   which VerticalLine x i a = absurd (i refl)
 
-  same_line : (p q : VerticalRule) (x y : ℕ) → p ≡ HorizontalLine → rule_merges p u l ≡ some x → rule_merges q u l ≡ some y → p ≡ q
+  same_line : (p q : VerticalRule) (x y : ℕ) → p ≡ HorizontalLine → rule_merges p u l ≡ Some x → rule_merges q u l ≡ Some y → p ≡ q
   same_line p q x y e a b = e ∙ sym (line_only u l x (rw e at a) q y b)
 
   -- "No pair is joined by two of the four": those but 4096.
-  pub no_two_rules : (p q : VerticalRule) (x y : ℕ) → (p ≡ VerticalLine → ⊥) → (q ≡ VerticalLine → ⊥) → rule_merges p u l ≡ some x → rule_merges q u l ≡ some y → p ≡ q
+  pub no_two_rules : (p q : VerticalRule) (x y : ℕ) → (p ≡ VerticalLine → ⊥) → (q ≡ VerticalLine → ⊥) → rule_merges p u l ≡ Some x → rule_merges q u l ≡ Some y → p ≡ q
   no_two_rules p q x y i j a b =
       ⊎_elim (λ e. same_line p q x y e a b)
       (λ v.
@@ -186,18 +186,18 @@ module _ (u l : ℕ) where
 
 else_second : (a b : Option ℕ) → is_some b ≡ true → is_some (or_else a b) ≡ true
 unfolding or_else is_some
-else_second (some x) b e = refl
-else_second none b e = e
+else_second (Some x) b e = refl
+else_second None b e = e
 
 else_assoc : (a b c : Option ℕ) → or_else (or_else a b) c ≡ or_else a (or_else b c)
 unfolding or_else
-else_assoc (some x) b c = refl
-else_assoc none b c = refl
+else_assoc (Some x) b c = refl
+else_assoc None b c = refl
 
-else_none : (a : Option ℕ) → or_else a none ≡ a
+else_none : (a : Option ℕ) → or_else a None ≡ a
 unfolding or_else
-else_none (some x) = refl
-else_none none = refl
+else_none (Some x) = refl
+else_none None = refl
 
 module _ (wanted : VerticalRule → Bool) (u l : ℕ) where
   -- the rules of one list are tried before those of the next
@@ -205,7 +205,7 @@ module _ (wanted : VerticalRule → Bool) (u l : ℕ) where
   unfolding or_else
   first-append [] more = refl
   first-append (rule ∷ rs) more =
-      ap (or_else (cond (wanted rule) (rule_merges rule u l) none)) (first-append rs more) ∙ sym (else_assoc (cond (wanted rule) (rule_merges rule u l) none) _ _)
+      ap (or_else (cond (wanted rule) (rule_merges rule u l) None)) (first-append rs more) ∙ sym (else_assoc (cond (wanted rule) (rule_merges rule u l) None) _ _)
 
 module _ (v w : VerticalRule → Bool) (u l : ℕ) where
   first_more : ((rule : VerticalRule) → v rule ≡ true → w rule ≡ true) → (rs : List VerticalRule) → is_some (first_merging v rs u l) ≡ true → is_some (first_merging w rs u l) ≡ true
@@ -216,10 +216,10 @@ module _ (v w : VerticalRule → Bool) (u l : ℕ) where
       rest : Option ℕ
       rest = first_merging w rs u l
 
-      go : (t : Bool) → v rule ≡ t → (o : Option ℕ) → rule_merges rule u l ≡ o → is_some (or_else (cond t o none) (first_merging v rs u l)) ≡ true → (is_some (first_merging v rs u l) ≡ true → is_some rest ≡ true) → is_some (or_else (cond (w rule) (rule_merges rule u l) none) rest) ≡ true
-      go true a (some x) b e old = rw (more rule a, b)
-      go true a none b e old = else_second (cond (w rule) (rule_merges rule u l) none) rest (old e)
-      go false a o b e old = else_second (cond (w rule) (rule_merges rule u l) none) rest (old e)
+      go : (t : Bool) → v rule ≡ t → (o : Option ℕ) → rule_merges rule u l ≡ o → is_some (or_else (cond t o None) (first_merging v rs u l)) ≡ true → (is_some (first_merging v rs u l) ≡ true → is_some rest ≡ true) → is_some (or_else (cond (w rule) (rule_merges rule u l) None) rest) ≡ true
+      go true a (Some x) b e old = rw (more rule a, b)
+      go true a None b e old = else_second (cond (w rule) (rule_merges rule u l) None) rest (old e)
+      go false a o b e old = else_second (cond (w rule) (rule_merges rule u l) None) rest (old e)
 
 -- ------------------------------------------------------------------ sets of rules
 
@@ -228,7 +228,7 @@ pub more-rules : (p q : ℕ) → EveryVerticalRuleOf p q → (u l : ℕ) → mer
 unfolding merges merge is_some
 more-rules p q w u l = go (eqb u blank) (eqb l blank)
   where
-    go : (s t : Bool) → is_some (cond s (some l) (cond t (some u) (first_merging (set_has p) vertical_rules u l))) ≡ true → is_some (cond s (some l) (cond t (some u) (first_merging (set_has q) vertical_rules u l))) ≡ true
+    go : (s t : Bool) → is_some (cond s (Some l) (cond t (Some u) (first_merging (set_has p) vertical_rules u l))) ≡ true → is_some (cond s (Some l) (cond t (Some u) (first_merging (set_has q) vertical_rules u l))) ≡ true
     go true t e = refl
     go false true e = refl
     go false false e = first_more (set_has p) (set_has q) u l w vertical_rules e
@@ -265,7 +265,7 @@ module _ (set : ℕ) where
 
 -- ------------------------------------------------------------------ two bars
 
-nothing : (t : Bool) → ◌≡◌ {A = Option ℕ} (cond t none none) none
+nothing : (t : Bool) → ◌≡◌ {A = Option ℕ} (cond t None None) None
 nothing true = refl
 nothing false = refl
 
@@ -274,7 +274,7 @@ pub two_bars_lem : (set u l : ℕ) → two_bars u l ≡ true → merge (controll
 unfolding two_bars merge joined_if or_else equal_character underscore hierarchy class_of horizontal_line
 two_bars_lem set = as_text (λ (u l : ℕ). merge (controlled_by set) u l ≡ joined_if (set_has set EqualCharacter || set_has set VerticalLine) (byte "|")) (byte "|") (byte "|") bars
   where
-    go : (a b : Bool) → or_else (cond a (some (byte "|")) none) (or_else (cond b (some (byte "|")) none) none) ≡ cond (a || b) (some (byte "|")) none
+    go : (a b : Bool) → or_else (cond a (Some (byte "|")) None) (or_else (cond b (Some (byte "|")) None) None) ≡ cond (a || b) (Some (byte "|")) None
     go true b = refl
     go false true = refl
     go false false = refl
@@ -295,7 +295,7 @@ module _ (set u l : ℕ) where
       go false = refl
 
   -- "Two bars become a bar": a set with 4096 makes them one.
-  bars_are : set_has set VerticalLine ≡ true → two_bars u l ≡ true → merge (controlled_by set) u l ≡ some (byte "|")
+  bars_are : set_has set VerticalLine ≡ true → two_bars u l ≡ true → merge (controlled_by set) u l ≡ Some (byte "|")
   unfolding joined_if
   bars_are i e = two_bars_lem set u l e ∙ ap (λ (t : Bool). joined_if t (byte "|")) (or_right (set_has set EqualCharacter) (set_has set VerticalLine) i)
 
@@ -320,13 +320,13 @@ module _ (set u l : ℕ) where
   pub other_pairs : two_bars u l ≡ false → merge (controlled_by set) u l ≡ merge (controlled_by (other_rules set)) u l
   unfolding merge joined_if or_else
   other_pairs e =
-      ap (λ (o : Option ℕ). cond (eqb u blank) (some l) (cond (eqb l blank) (some u) o)) (without set ∙ (sym same ∙ sym (without (other_rules set))))
+      ap (λ (o : Option ℕ). cond (eqb u blank) (Some l) (cond (eqb l blank) (Some u) o)) (without set ∙ (sym same ∙ sym (without (other_rules set))))
     where
-      never : (t : Bool) → or_else (cond t (joined_if false (byte "|")) none) none ≡ none
+      never : (t : Bool) → or_else (cond t (joined_if false (byte "|")) None) None ≡ None
       never true = refl
       never false = refl
 
-      last : (s : ℕ) → first_merging (set_has s) (VerticalLine ∷ []) u l ≡ none
+      last : (s : ℕ) → first_merging (set_has s) (VerticalLine ∷ []) u l ≡ None
       last s = rw e (never (set_has s VerticalLine))
 
       without : (s : ℕ) → first_merging (set_has s) vertical_rules u l ≡ first_merging (set_has s) four u l
@@ -341,22 +341,22 @@ module _ (set u l : ℕ) where
   unfolding merged_byte joined_if
   other_rules_byte m = go (two_bars u l) refl
     where
-      by_256 : (s : ℕ) → set_has s EqualCharacter ≡ true → two_bars u l ≡ true → merge (controlled_by s) u l ≡ some (byte "|")
+      by_256 : (s : ℕ) → set_has s EqualCharacter ≡ true → two_bars u l ≡ true → merge (controlled_by s) u l ≡ Some (byte "|")
       by_256 s i e = two_bars_lem s u l e ∙ rw i
 
-      go : (t : Bool) → two_bars u l ≡ t → get_or (merge (controlled_by set) u l) 0 ≡ get_or (merge (controlled_by (other_rules set)) u l) 0
+      go : (t : Bool) → two_bars u l ≡ t → unwrap_or (merge (controlled_by set) u l) 0 ≡ unwrap_or (merge (controlled_by (other_rules set)) u l) 0
       go true e =
           let i = sym (bars_need_256 e) ∙ m in
-          ap (λ (o : Option ℕ). get_or o 0) (by_256 set i e ∙ sym (by_256 (other_rules set) (others_equal set EqualCharacter (λ z. clash cc) ∙ i) e))
-      go false e = ap (λ (o : Option ℕ). get_or o 0) (other_pairs e)
+          ap (λ (o : Option ℕ). unwrap_or o 0) (by_256 set i e ∙ sym (by_256 (other_rules set) (others_equal set EqualCharacter (λ z. clash cc) ∙ i) e))
+      go false e = ap (λ (o : Option ℕ). unwrap_or o 0) (other_pairs e)
 
 -- ------------------------------------------------------------------ a hyphen and an underscore
 
 -- "It does not matter which is found above the other."
-pub hyphen_above : (set : ℕ) → set_has set HorizontalLine ≡ true → merge (controlled_by set) (byte "-") (byte "_") ≡ some (byte "=")
+pub hyphen_above : (set : ℕ) → set_has set HorizontalLine ≡ true → merge (controlled_by set) (byte "-") (byte "_") ≡ Some (byte "=")
 unfolding merge joined_if or_else equal_character underscore hierarchy class_of horizontal_line
 hyphen_above set i = rw (nothing (set_has set EqualCharacter), nothing (set_has set Underscore), nothing (set_has set Hierarchy), i)
 
-pub underscore-above : (set : ℕ) → set_has set HorizontalLine ≡ true → merge (controlled_by set) (byte "_") (byte "-") ≡ some (byte "=")
+pub underscore-above : (set : ℕ) → set_has set HorizontalLine ≡ true → merge (controlled_by set) (byte "_") (byte "-") ≡ Some (byte "=")
 unfolding merge joined_if or_else equal_character underscore hierarchy class_of horizontal_line
 underscore-above set i = rw (nothing (set_has set EqualCharacter), nothing (set_has set Underscore), nothing (set_has set Hierarchy), i)

@@ -1,7 +1,6 @@
 -- The vertical pair decision as it is computed: by the horizontal one, with blank for the hardblank, and behind it by rules 2048 and 4096.
 -- Assumes nothing.
 use Rattle.std.specs.Prelude.{ℕ, ◌/◌, ◌%◌, List, [], ◌∷◌}
-use Rattle.std.proofs.Math.Option.{Option, none, some}
 use Rattle.subchars.specs.declared.Direction.TheVariants.{LeftToRight}
 use Rattle.subchars.specs.declared.Smushing.TheVariants as horizontally
 use Rattle.subchars.specs.declared.Layout.{Layout}
@@ -11,8 +10,6 @@ use Rattle.subchars.specs.declared.VerticalLayout.{VerticalLayout}
 use Rattle.subchars.specs.declared.VerticalLayout.TheVariants.{FullHeight, Fitting, Smushing}
 use Rattle.subchars.specs.declared.Mode.{Mode}
 use Rattle.subchars.specs.Hardblank.{blank}
-use Rattle.vertical.specs.declared.Merge.{Merge}
-use Rattle.vertical.specs.declared.Merge.TheVariants.{Into, Apart}
 use Rattle.vertical.specs.VerticalPair.{VerticalRule, EqualCharacter, Underscore, Hierarchy, HorizontalLine, VerticalLine}
 
 -- The code values 256, 512 and 1024 of a set as the horizontal 1, 2 and 4.
@@ -43,8 +40,3 @@ shared_rules = EqualCharacter ∷ Underscore ∷ Hierarchy ∷ []
 
 abbrev pub line_rules : List VerticalRule
 line_rules = HorizontalLine ∷ VerticalLine ∷ []
-
--- What a pair becomes, as the code tells it.
-abbrev pub told : Option ℕ → Merge
-told (some x) = Into (record { 0 = x })
-told none = Apart

@@ -1,17 +1,15 @@
 -- What a pair of sub-characters that lie above one another becomes, u above l: document 02, Q-1, with "The Five Vertical Smushing Rules" of source
 -- document 000. "Hardblanks are first made blanks": none occurs here.
 -- Assumes nothing.
-use Rattle.std.specs.Prelude.{ℕ, ◌%◌, ◌≡◌, Bool, true, cond, ◌&&◌, ◌||◌, List, [], ◌∷◌, eqb, leb}
-use Rattle.std.proofs.Math.Option.{Option, none, some, get_or}
+use Rattle.std.specs.Prelude.{ℕ, ◌%◌, ◌≡◌, Bool, true, cond, ◌&&◌, ◌||◌, List, [], ◌∷◌, eqb, leb, Option, Some, None, unwrap_or}
 use Rattle.ground.specs.Text.{byte}
+use Rattle.subchars.specs.declared.SubCharacter.{SubCharacter}
 use Rattle.subchars.specs.declared.VerticalSmushing.TheVariants.{Universal, Controlled}
 use Rattle.subchars.specs.declared.VerticalLayout.{VerticalLayout}
 use Rattle.subchars.specs.declared.VerticalLayout.TheVariants.{FullHeight, Fitting, Smushing}
 use Rattle.subchars.specs.Layouts.{has}
 use Rattle.subchars.specs.Hardblank.{blank}
 use Rattle.rules.specs.Rules.{joined_if, or_else, is_some, equal_character, underscore, hierarchy, reads, either_order}
-use Rattle.vertical.specs.declared.PairTest.{PairTest}
-use Rattle.vertical.specs.declared.PairTest.TheVariants.{ByLayout, Bars}
 
 -- The rules by the standard's names, in its order.
 pub data VerticalRule : Type 0 where
@@ -54,19 +52,19 @@ rule_merges VerticalLine u l = joined_if (two_bars u l) (byte "|")
 
 -- What the first of the rules that is wanted and joins the pair makes of it. (No pair is joined by two of the four: proofs/VerticalRules.)
 abbrev pub first_merging : (VerticalRule → Bool) → List VerticalRule → ℕ → ℕ → Option ℕ
-first_merging wanted [] u l = none
-first_merging wanted (rule ∷ more) u l = or_else (cond (wanted rule) (rule_merges rule u l) none) (first_merging wanted more u l)
+first_merging wanted [] u l = None
+first_merging wanted (rule ∷ more) u l = or_else (cond (wanted rule) (rule_merges rule u l) None) (first_merging wanted more u l)
 
 -- Only smushing joins a pair without a blank: "universal or with the five rules"; "for universal the lower block is the later one".
 abbrev pub without_blank : VerticalLayout → ℕ → ℕ → Option ℕ
-without_blank FullHeight u l = none
-without_blank Fitting u l = none
-without_blank (Smushing Universal) u l = some l
+without_blank FullHeight u l = None
+without_blank Fitting u l = None
+without_blank (Smushing Universal) u l = Some l
 without_blank (Smushing (Controlled set)) u l = first_merging (set_has set) vertical_rules u l
 
 -- Document 01: a pair with a blank "joins in every mode, under no rule"; "a blank yields to its partner".
 unfoldable pub merge : VerticalLayout → ℕ → ℕ → Option ℕ
-merge layout u l = cond (eqb u blank) (some l) (cond (eqb l blank) (some u) (without_blank layout u l))
+merge layout u l = cond (eqb u blank) (Some l) (cond (eqb l blank) (Some u) (without_blank layout u l))
 
 -- Whether the layout can join a pair.
 unfoldable pub merges : VerticalLayout → ℕ → ℕ → Bool
@@ -74,7 +72,7 @@ merges layout u l = is_some (merge layout u l)
 
 -- What a pair that joins becomes; 0 of one that does not.
 unfoldable pub merged_byte : VerticalLayout → ℕ → ℕ → ℕ
-merged_byte layout u l = get_or (merge layout u l) 0
+merged_byte layout u l = unwrap_or (merge layout u l) 0
 
 -- "Faces only pairs with a blank or of two bars."
 unfoldable pub barred : ℕ → ℕ → Bool
@@ -84,10 +82,9 @@ barred u l = eqb u blank || eqb l blank || two_bars u l
 abbrev pub other_rules : ℕ → ℕ
 other_rules set = set % 4096
 
--- What an overlap asks of each pair that faces: that the layout joins it, or that it has a blank or is of two bars.
-abbrev pub passes_by : PairTest → ℕ → ℕ → Bool
-passes_by (ByLayout layout) u l = merges layout u l
-passes_by Bars u l = barred u l
+-- A test of pairs, by what it may answer, answers as p does.
+abbrev pub AnswersAs : (SubCharacter → SubCharacter → Bool → Type 0) → (ℕ → ℕ → Bool) → Type 0
+AnswersAs post p = (u l : SubCharacter) (t : Bool) → post u l t → t ≡ p u.0 l.0
 
 -- "17 as in the join, but .. the five rules": a set is a sum of one to five of them, 256 to 7,936 in steps of 256.
 abbrev pub good_set : ℕ → Bool

@@ -20,7 +20,7 @@ use Rattle.subchars.specs.Layouts.{full_layout_of}
 use Rattle.rules.specs.declared.Rule.TheVariants.{Hierarchy, BigX, Hardblank}
 use Rattle.pairs.specs.declared.Joint.{Joint}
 use Rattle.pairs.specs.declared.Joint.TheVariants.{ByUniversal, ByRule, Unjoinable}
-use Rattle.header.specs.declared.Given.TheVariants.{Absent, Of}
+use Rattle.std.specs.Prelude.{Some, None}
 use Rattle.header.specs.Header.{layout_of}
 use Rattle.subchars.specs.Hardblank.{legal_hardblank}
 use Rattle.rules.specs.Rules.{joined_if, or_else, equal_character, underscore, class_of, hierarchy, opposite, opposite_pair, big_x}
@@ -30,8 +30,7 @@ use Rattle.lanes.specs.Joined.{joined_cells}
 use Rattle.blocks.specs.Block.{exact_block, rows_of}
 use Rattle.overlap.specs.Join.{overlap, joined_at, besides}
 use Rattle.join.specs.Shape.{good_block, good_shape}
-use Rattle.join.specs.declared.JoinAnswer.TheVariants.{Joined}
-use Rattle.join.specs.JoinCall.{join_tells, told_of, join_told, join_area}
+use Rattle.join.specs.JoinCall.{joining as joined_with, join_tells, told_of, join_told, join_area}
 
 abbrev Rows : Type 0
 Rows = List String
@@ -70,12 +69,12 @@ data Example : Type 0 where
   pairing : Layout → ℕ → ℕ → Joint → Example
 
 Holds : Example → Type 0
-Holds (old_layout z y) = layout_of z Absent ≡ y
-Holds (full_layout v y) = (old : ℤ) → layout_of old (Of v) ≡ y
+Holds (old_layout z y) = layout_of z None ≡ y
+Holds (full_layout v y) = (old : ℤ) → layout_of old (Some v) ≡ y
 Holds (joining y line character o result) =
     let h = length line in
     let room = length (text result) in
-    (join_told (mode y) h (width line) (text line) (width character) (text character) room ≡ join_tells (Joined o (width result)))
+    (join_told (mode y) h (width line) (text line) (width character) (text character) room ≡ join_tells (joined_with o (width result)))
     × (join_area (mode y) h (width line) (text line) (width character) (text character) room ≡ text result)
 Holds (is_free line character o) =
     let a = exact_block (width line) (text line) in

@@ -1,7 +1,6 @@
 -- The laws of the public calls.
 pub mod Examples
 pub mod RowOfTwoLaws
-pub mod DrawCases
 pub mod DrawLaws
 pub mod ToldApart
 pub mod Wiping

@@ -8,7 +8,7 @@ use mathlib.Core.Bool.{Bool, true, false, cond, ◌&&◌}
 use mathlib.Core.List.{List, [], ◌∷◌, ◌++◌, map}
 use mathlib.Core.Logic.Iff
 use mathlib.Core.Logic.{◌⊎◌, inl, inr, ◌↔◌}
-use mathlib.Core.Option.{some}
+use Rattle.std.specs.Prelude.{Option, Some, None, Result, Ok, Err}
 use Prim.Native.Nat.{ℕ, suc, ◌+◌, ◌-◌, ◌*◌, ◌≤◌, ◌<◌, min, max}
 use lib.IntN.{ℤ, pos, nat_abs, ◌-ℤ◌}
 use lib.Signed.{le_z}
@@ -18,7 +18,7 @@ use borrow.Author.Tests.{eq-eqb, ne_eqb}
 use Rattle.ground.specs.Area.{zeros, padded}
 use Rattle.ground.specs.Text.{byte, bytes, among}
 use Rattle.ground.specs.Limits.{max_font_length, max_control_file, max_text, max_line_width, max_height, max_stack_height, max_characters, max_commands, min_lines, min_scratch, min_stacked_scratch, max_character_width, max_rules, max_stages, max_pack_length, min_pack_length}
-use Rattle.ground.specs.Refusals.{refusal, font_too_long, no_signature, bad_hardblank, bad_parameters, too_many_characters, area_too_small, control_file_too_long, not_a_command, bad_ranges, extended_command, too_many_commands, text_too_long, line_too_wide, bad_shape, stack_too_high, character_too_wide, missing_line, bad_row, bad_code_tag, damaged_pack, code_present, code_absent, no_room, fonts_differ, wrong_length}
+use Rattle.ground.specs.Refusals.{refusal, number_of, font_too_long, no_signature, bad_hardblank, bad_parameters, too_many_characters, area_too_small, control_file_too_long, not_a_command, bad_ranges, extended_command, too_many_commands, text_too_long, line_too_wide, bad_shape, stack_too_high, character_too_wide, missing_line, bad_row, bad_code_tag, damaged_pack, code_present, code_absent, no_room, fonts_differ, wrong_length}
 use Rattle.ground.specs.Runs.{run, all, begins, joined}
 use Rattle.ground.specs.declared.refusals.Refusal.{Refusal}
 use Rattle.ground.proofs.Tests.{clash}
@@ -53,17 +53,14 @@ use Rattle.lanes.proofs.Smushing as lanes
 use Rattle.lanes.proofs.Smushing.{Fails}
 use Rattle.blocks.specs.Block.{Block, exact_block, left_of, right_of}
 use Rattle.overlap.specs.Join.{overlap, pair_byte, besides}
-use Rattle.join.specs.declared.JoinAnswer.{JoinAnswer}
-use Rattle.join.specs.declared.JoinAnswer.TheVariants as join_is
-use Rattle.join.specs.JoinCall.{join_tells, join_told, join_area}
+use Rattle.join.specs.declared.Joined.{Joined}
+use Rattle.join.specs.JoinCall.{joining, join_tells, join_told, join_area}
 use Rattle.overlap.proofs.Demand as demand
-use Rattle.join.proofs.Answers as joining
+use Rattle.join.proofs.Answers as join-answers
 use Rattle.join.proofs.Bytes.{joined-byte}
-use Rattle.stack.specs.declared.StackAnswer.{StackAnswer}
-use Rattle.stack.specs.declared.StackAnswer.TheVariants as stack_is
-use Rattle.stack.specs.declared.StackAnswer.TheVariants.{Stacked}
+use Rattle.stack.specs.declared.Stacked.{Stacked}
 use Rattle.columns.specs.Stack.{upright, stack_overlap, Stack, stacked}
-use Rattle.stack.specs.StackCall.{stack_tells, no_stack, stack_of, stack_told, stack_area}
+use Rattle.stack.specs.StackCall.{stacking, stack_tells, no_stack, stack_of, stack_told, stack_area}
 use Rattle.columns.proofs.Demand as stacking
 use Rattle.columns.proofs.Columns as columns
 use Rattle.columns.proofs.Filling as filling
@@ -79,24 +76,16 @@ use Rattle.blocks.specs.Writing.{Like}
 use Rattle.lines.specs.Lines.{TextLine, lines_from, text_at}
 use Rattle.lines.specs.Words.{is_blank, first_word, after_blanks}
 use Rattle.lines.specs.Numbers.{code_number}
-use Rattle.lines.specs.declared.numbers.CodeNumber.TheVariants.{Named, NotCode}
-use Rattle.header.specs.declared.Given.TheVariants.{Absent}
 use Rattle.header.specs.declared.Header.{Header}
 use Rattle.header.specs.declared.Parameters.{Parameters}
-use Rattle.header.specs.declared.ParameterStep.TheVariants.{All}
 use Rattle.header.specs.Header.{font_signature, parameter_numbers, parameters, legal_parameters}
 use Rattle.chars.specs.declared.Entry.{Entry}
-use Rattle.chars.specs.declared.TagStep.TheVariants.{Tag}
 use Rattle.chars.specs.Codes.{code, required_codes, required_count, no_code, tag_of}
 use Rattle.chars.specs.Chars.{blank_lines}
 use Rattle.rows.specs.declared.Format.{Format}
-use Rattle.rows.specs.declared.RowStep.{RowStep}
-use Rattle.rows.specs.declared.RowStep.TheVariants as row_is
-use Rattle.rows.specs.Rows.{trimmed, unmarked, row, legal_byte, row_of, read, character_rows}
+use Rattle.rows.specs.Rows.{trimmed, unmarked, row, legal_byte, row_of, character_rows}
 use Rattle.rows.proofs.TrailingBlanks as row-lines
 use Rattle.chars.proofs.OrderLaws.{InOrder, EachTagged}
-use Rattle.index.specs.declared.Found.{Found}
-use Rattle.index.specs.declared.Found.TheVariants.{At, Nowhere}
 use Rattle.index.specs.LookUp.{last_at, or_stand_in, look_up}
 use Rattle.index.proofs.FindLaws as looking
 use Rattle.index.proofs.FindLaws.{Last}
@@ -108,7 +97,6 @@ use Rattle.entries.specs.Filling.{font_reading, zero_entry, index_of}
 use Rattle.entries.proofs.RefusalLaws as index
 use Rattle.finding.specs.Finding.{entry_tells, found_told}
 use Rattle.finding.proofs.ToldApart as finding
-use Rattle.reader.specs.declared.Use.TheVariants.{Nothing}
 use Rattle.reader.specs.declared.LookedUp.{LookedUp}
 use Rattle.reader.specs.declared.LookedUp.TheVariants as three
 use Rattle.reader.specs.Reader.{used, looked_up, last_of}
@@ -121,7 +109,6 @@ use Rattle.commands.specs.declared.fields.Form.{Form}
 use Rattle.commands.specs.declared.fields.Form.TheVariants.{Characters, Numbers}
 use Rattle.commands.specs.declared.fields.Codes.{Codes}
 use Rattle.commands.specs.declared.fields.Codes.TheVariants.{One, Range}
-use Rattle.commands.specs.declared.fields.FieldStep.TheVariants.{Field}
 use Rattle.commands.specs.Fields.{field, ends_field, good_ranges}
 use Rattle.flc.specs.declared.Command.{Command}
 use Rattle.flc.specs.Control as flc
@@ -154,11 +141,8 @@ use Rattle.wrapping.proofs.Answers as wrap-answers
 use Rattle.breaks.proofs.BreakingLaws as breaks
 use Rattle.wrapping.proofs.TableLaws as wrap-rows
 use Rattle.wrapping.proofs.TextLines as text-lines
-use Rattle.fontcalls.specs.declared.RowRefusal.TheVariants.{NotRefused, Refused}
 use Rattle.fontcalls.specs.RowCall.{row_tells, row_told, row_bytes}
-use Rattle.fontcalls.specs.declared.LookUpAnswer.TheVariants as look-up-is
 use Rattle.fontcalls.specs.LookUpCall.{look_up_tells, look_up_told}
-use Rattle.controlcalls.specs.declared.MapAnswer.TheVariants as map_is
 use Rattle.controlcalls.specs.MapCall.{map_tells, map_told}
 use Rattle.wattleslate.specs.DrawCall.{draw_tells, draw_told, draw_output}
 use Rattle.fontcalls.proofs.LookUpLaws as look-ups
@@ -168,18 +152,13 @@ use Rattle.fontcalls.proofs.RowLaws as row-calls
 use Rattle.wattleslate.proofs.Wiping as wiping
 use Rattle.font.specs.Font as font
 use Rattle.records.specs.declared.Head.{Head}
-use Rattle.records.specs.declared.Place.TheVariants as place_is
 use Rattle.records.specs.Versions.{head_length, record_head_length, max_width}
 use Rattle.records.specs.Records.{is_zero, live as liveByte, free_status as freeByte, minus_one, code_in, width_in, rows_in, size_in, record_list, none_twice, has_live, live_count}
 use Rattle.records.specs.Places.{place_in}
 use Rattle.records.specs.Letters.{letter, no_letter}
 use Rattle.edits.specs.Changes as edits
 use Rattle.heads.specs.Pack as heads
-use Rattle.pack.specs.declared.PackAnswer.TheVariants as pack-is
-use Rattle.pack.specs.declared.FindAnswer.{FindAnswer}
-use Rattle.pack.specs.declared.FindAnswer.TheVariants as find-is
-use Rattle.pack.specs.declared.EditAnswer.{EditAnswer}
-use Rattle.pack.specs.declared.EditAnswer.TheVariants as edit-is
+use Rattle.pack.specs.declared.Found.{Found}
 use Rattle.pack.specs.Calls as calls
 use Rattle.pack.proofs.Outcomes as outcomes
 use Rattle.pack.proofs.Theorems as pack-laws
@@ -192,7 +171,6 @@ use Rattle.fontlists.specs.declared.two.Which.{Which}
 use Rattle.fontlists.specs.declared.two.Which.TheVariants as which-is
 use Rattle.fontlists.specs.declared.two.LookedUpInTwo.TheVariants as in_two
 use Rattle.fontlists.specs.TwoFonts.{looked_up_in_two, bytes_in}
-use Rattle.reader.specs.declared.Use.TheVariants as use-is
 use Rattle.request.specs.Request.{row_request}
 use Rattle.twofonts.specs.declared.RequestedOfTwo.TheVariants as two-row-is
 use Rattle.twofonts.specs.Fonts.{alike}
@@ -204,8 +182,8 @@ use Rattle.twofonts.proofs.RowAnswers as two-requests
 use Rattle.twofonts.proofs.Answers as two-drawing
 use Rattle.twofonts.proofs.TwoFontsLaws as two-fonts
 use Rattle.twofonts.proofs.TwoFontsLaws.{EachHas, in_first}
-use Rattle.checking.specs.declared.CheckAnswer.{CheckAnswer}
-use Rattle.checking.specs.declared.CheckAnswer.TheVariants as check-is
+use Rattle.checking.specs.declared.Verdict.{Verdict}
+use Rattle.checking.specs.declared.Verdict.TheVariants as check-is
 use Rattle.checking.specs.Verdict.{after_first}
 use Rattle.checking.proofs.DifferenceLaws.{PartsFirst}
 use Rattle.checking.proofs.VerdictLaws.{FirstWrong}
@@ -268,7 +246,7 @@ module _ (s : List ℕ) where
       ((x : ℕ) × (more : List ℕ) × (rest ≡ x ∷ more) ×
       ((is_blank x ≡ false) ⊎
       (length (parameter_numbers more) < 5) ⊎
-      ((v : Parameters) × (parameters (parameter_numbers more) ≡ All v) × (legal_parameters v ≡ false))))))
+      ((v : Parameters) × (parameters (parameter_numbers more) ≡ Some v) × (legal_parameters v ≡ false))))))
   refusal_4 = font-rows.row_4 s
 
   -- "Then 5 to 8 as met line by line": `Comes s h due ls` says how far the lines of the font, whose header is h, are good: what is due next, and the lines ls that
@@ -307,8 +285,8 @@ module _ (s : List ℕ) where
       reading s ≡ refuses (refusal bad_code_tag p) ↔
       ((h : Header) × (n : ℕ) × (l : TextLine) × (ls : List TextLine) × (p ≡ l.start) ×
       Comes s h (character n) (l ∷ ls) × (required_count ≤ n) × (blank_lines (l ∷ ls) ≡ false) ×
-      ((code_number (first_word l.text) ≡ NotCode) ⊎
-      (code_number (first_word l.text) ≡ Named no_code)))
+      ((code_number (first_word l.text) ≡ None) ⊎
+      (code_number (first_word l.text) ≡ Some no_code)))
   refusal_7 = font-rows.row_7 s
 
   -- 8, "a 513th character", at the "start of its tag line"; "on one tag line 7 before 8": the tag is a code.
@@ -316,18 +294,18 @@ module _ (s : List ℕ) where
       reading s ≡ refuses (refusal too_many_characters p) ↔
       ((h : Header) × (n : ℕ) × (l : TextLine) × (ls : List TextLine) × (p ≡ l.start) ×
       Comes s h (character n) (l ∷ ls) × (max_characters ≤ n) × (blank_lines (l ∷ ls) ≡ false) ×
-      (c : Code) × (tag_of l.text ≡ Tag c))
+      (c : Code) × (tag_of l.text ≡ Some c))
   refusal_8 = font-rows.row_8 s
 
   -- A font has no refusal but 1 to 8, and none names a place beyond its end.
-  font_refusals : (r : Refusal) → reading s ≡ refuses r → (font_too_long ≤ r.number) × (r.number ≤ too_many_characters) × (r.place ≤ length s) × (r.place ≤ max_font_length)
+  font_refusals : (r : Refusal) → reading s ≡ refuses r → (number_of font_too_long ≤ number_of r.reason) × (number_of r.reason ≤ number_of too_many_characters) × (r.place ≤ length s) × (r.place ≤ max_font_length)
   font_refusals = fonts.font_refusal s
 
   -- 9, "a lent area is too small", at 0. "Reading a font: 9 (index under 512 entries), 1, 2, ..".
   refusal_9_of_read_font : (room p : ℕ) → font_reading room s ≡ refuses (refusal area_too_small p) ↔ ((p ≡ 0) × (room < max_characters))
   refusal_9_of_read_font room = index.refused_9 s room
 
-  font_refusals_of_read_font : (room : ℕ) (r : Refusal) → r.number ≤ too_many_characters → font_reading room s ≡ refuses r ↔ ((max_characters ≤ room) × (reading s ≡ refuses r))
+  font_refusals_of_read_font : (room : ℕ) (r : Refusal) → number_of r.reason ≤ number_of too_many_characters → font_reading room s ≡ refuses r ↔ ((max_characters ≤ room) × (reading s ≡ refuses r))
   font_refusals_of_read_font room = index.refused_font s room
 
 -- The forms of a line t of a control file. "Lines beginning #, empty lines and lines of only blanks and tabs are comments."
@@ -345,8 +323,8 @@ IsStage t = (xs : List ℕ) × (t ≡ byte "f" ∷ xs)
 -- "At least one blank or tab stands .. between the two fields; after the second only the line end, a blank or a tab may follow": fields of n and m bytes.
 abbrev TwoFields : Form → List ℕ → Codes → Codes → Type 0
 TwoFields form t one two =
-    (n m : ℕ) × (field form t ≡ Field one n) × (0 < run is_blank (drop n t)) ×
-    (field form (after_blanks (drop n t)) ≡ Field two m) × (ends_field (drop m (after_blanks (drop n t))) ≡ true)
+    (n m : ℕ) × (field form t ≡ Some (record { codes = one; length = n })) × (0 < run is_blank (drop n t)) ×
+    (field form (after_blanks (drop n t)) ≡ Some (record { codes = two; length = m })) × (ends_field (drop m (after_blanks (drop n t))) ≡ true)
 
 -- "At least one blank or tab stands after `t`."
 abbrev Translates : List ℕ → Codes → Codes → Type 0
@@ -373,7 +351,7 @@ module _ (s : List ℕ) where
   refusal_9_of_read_control : (lent : CommandLists) (p : ℕ) → control_reading lent s ≡ flc.refuses (refusal area_too_small p) ↔ ((p ≡ 0) × (room_of lent < max_commands))
   refusal_9_of_read_control lent = lent-lists.refused_9 lent s
 
-  control_refusals_of_read_control : (lent : CommandLists) (r : Refusal) → control_file_too_long ≤ r.number → control_reading lent s ≡ flc.refuses r ↔ ((max_commands ≤ room_of lent) × (flc.control s ≡ flc.refuses r))
+  control_refusals_of_read_control : (lent : CommandLists) (r : Refusal) → number_of control_file_too_long ≤ number_of r.reason → control_reading lent s ≡ flc.refuses r ↔ ((max_commands ≤ room_of lent) × (flc.control s ≡ flc.refuses r))
   control_refusals_of_read_control lent = lent-lists.refused_file lent s
 
   -- 10, "control file too long", at 0.
@@ -410,14 +388,14 @@ module _ (s : List ℕ) where
   refusal_14 = control-rows.row_14 s
 
   -- A control file has no refusal but 10 to 14, and none names a place beyond its end.
-  control_refusals : (r : Refusal) → flc.control s ≡ flc.refuses r → (control_file_too_long ≤ r.number) × (r.number ≤ too_many_commands) × (r.place ≤ length s) × (r.place ≤ max_control_file)
+  control_refusals : (r : Refusal) → flc.control s ≡ flc.refuses r → (number_of control_file_too_long ≤ number_of r.reason) × (number_of r.reason ≤ number_of too_many_commands) × (r.place ≤ length s) × (r.place ≤ max_control_file)
   control_refusals = controls.control-refusal s
 
 -- "Look-up .. and mapping a code: those of their file."
-refusals_of_look_up : (s : List ℕ) (c : Code) (r : Refusal) → look_up_told s c ≡ look_up_tells (look-up-is.Refused r) ↔ reading s ≡ refuses r
+refusals_of_look_up : (s : List ℕ) (c : Code) (r : Refusal) → look_up_told s c ≡ look_up_tells (Err r) ↔ reading s ≡ refuses r
 refusals_of_look_up = look-ups.look_up_refused
 
-refusals_of_map_code : (s : List ℕ) (c : Code) (r : Refusal) → map_told s c ≡ map_tells (map_is.Refused r) ↔ flc.control s ≡ flc.refuses r
+refusals_of_map_code : (s : List ℕ) (c : Code) (r : Refusal) → map_told s c ≡ map_tells (Err r) ↔ flc.control s ≡ flc.refuses r
 refusals_of_map_code = mappings.map-refused
 
 -- "Drawing: 9 for all working areas (scratch under 32,000 bytes included), the font's, the control file's, 15, 16, then 9 for the output."
@@ -433,10 +411,10 @@ module _ (size : ℕ) (s control text : List ℕ) (room : ℕ) where
   abbrev Draws : DrawAnswer → Type 0
   Draws a = draw_told size s control text room ≡ draw_tells a
 
-  font_refusals_of_draw : (r : Refusal) → r.number ≤ too_many_characters → Draws (draw-is.Refused r) ↔ ((min_scratch ≤ size) × (reading s ≡ refuses r))
+  font_refusals_of_draw : (r : Refusal) → number_of r.reason ≤ number_of too_many_characters → Draws (draw-is.Refused r) ↔ ((min_scratch ≤ size) × (reading s ≡ refuses r))
   font_refusals_of_draw r u = Iff.trans (draw-calls.told_is size s control text room _) (drawing.row_font size s control text room r u)
 
-  control_refusals_of_draw : (r : Refusal) → control_file_too_long ≤ r.number → r.number ≤ too_many_commands →
+  control_refusals_of_draw : (r : Refusal) → number_of control_file_too_long ≤ number_of r.reason → number_of r.reason ≤ number_of too_many_commands →
       Draws (draw-is.Refused r) ↔ ((min_scratch ≤ size) × (h : Header) × (es : List Entry) × (reading s ≡ says h es) × (flc.control control ≡ flc.refuses r))
   control_refusals_of_draw r u v = Iff.trans (draw-calls.told_is size s control text room _) (drawing.row-control size s control text room r u v)
 
@@ -481,7 +459,7 @@ module _ (y : Mode) (h n : ℕ) (line : List ℕ) (m : ℕ) (character : List �
   abbrev result_width_lem : ℕ
   result_width_lem = (besides y h left_block right_block).width
 
-  abbrev Joins : JoinAnswer → Type 0
+  abbrev Joins : Result Joined Refusal → Type 0
   Joins a = join_told y h n line m character room ≡ join_tells a
 
   -- 17, "join .. of bad shape": "height outside 1 to 32, line width over 1,000, character width over 199, rules outside 1 to 63 in controlled mode, a hardblank that 3 refuses,
@@ -497,33 +475,33 @@ module _ (y : Mode) (h n : ℕ) (line : List ℕ) (m : ℕ) (character : List �
       (length line ≡ h * n → ⊥) ⊎
       (length character ≡ h * m → ⊥)
 
-  refusal_17_of_join : (p : ℕ) → Joins (join_is.Refused (refusal bad_shape p)) ↔ ((p ≡ 0) × ShapeBad)
-  refusal_17_of_join = joining.row_17 y h n line m character room
+  refusal_17_of_join : (p : ℕ) → Joins (Err (refusal bad_shape p)) ↔ ((p ≡ 0) × ShapeBad)
+  refusal_17_of_join = join-answers.row_17 y h n line m character room
 
   -- 16, "drawn line wider than 1,000", at 0.
-  refusal_16_of_join : (p : ℕ) → Joins (join_is.Refused (refusal line_too_wide p)) ↔ ((p ≡ 0) × (ShapeBad → ⊥) × (max_line_width < result_width_lem))
-  refusal_16_of_join = joining.row_16 y h n line m character room
+  refusal_16_of_join : (p : ℕ) → Joins (Err (refusal line_too_wide p)) ↔ ((p ≡ 0) × (ShapeBad → ⊥) × (max_line_width < result_width_lem))
+  refusal_16_of_join = join-answers.row_16 y h n line m character room
 
   -- 9, "a lent area is too small", at 0.
-  refusal_9_of_join : (p : ℕ) → Joins (join_is.Refused (refusal area_too_small p)) ↔ ((p ≡ 0) × (ShapeBad → ⊥) × (result_width_lem ≤ max_line_width) × (room < h * result_width_lem))
-  refusal_9_of_join = joining.row_9 y h n line m character room
+  refusal_9_of_join : (p : ℕ) → Joins (Err (refusal area_too_small p)) ↔ ((p ≡ 0) × (ShapeBad → ⊥) × (result_width_lem ≤ max_line_width) × (room < h * result_width_lem))
+  refusal_9_of_join = join-answers.row_9 y h n line m character room
 
   -- Otherwise "it answers the overlap and the result width".
   joins_otherwise : (o w : ℕ) →
-      Joins (join_is.Joined o w) ↔ ((ShapeBad → ⊥) × (result_width_lem ≤ max_line_width) × (h * result_width_lem ≤ room) × (o ≡ overlap y h left_block right_block) × (w ≡ result_width_lem))
-  joins_otherwise = joining.row-joined y h n line m character room
+      Joins (joining o w) ↔ ((ShapeBad → ⊥) × (result_width_lem ≤ max_line_width) × (h * result_width_lem ≤ room) × (o ≡ overlap y h left_block right_block) × (w ≡ result_width_lem))
+  joins_otherwise = join-answers.row-joined y h n line m character room
 
 -- 17, "row request of bad shape": "a row number at or above Height, or a code with neither drawing nor stand-in", after the font's refusals.
 module _ (s : List ℕ) (c : Code) (r : ℕ) where
   refusal_17_of_row : (p : ℕ) →
-      row_told s c r ≡ row_tells (Refused (refusal bad_shape p)) ↔ ((p ≡ 0) × ((h : Header) × (es : List Entry) × (reading s ≡ says h es) × ((h.height ≤ r) ⊎ (used c es ≡ Nothing))))
+      row_told s c r ≡ row_tells (Err (refusal bad_shape p)) ↔ ((p ≡ 0) × ((h : Header) × (es : List Entry) × (reading s ≡ says h es) × ((h.height ≤ r) ⊎ (used c es ≡ None))))
   refusal_17_of_row = row-calls.told_17 s c r
 
-  font_refusals_of_row : (q : Refusal) → q.number ≤ too_many_characters → row_told s c r ≡ row_tells (Refused q) ↔ reading s ≡ refuses q
+  font_refusals_of_row : (q : Refusal) → number_of q.reason ≤ number_of too_many_characters → row_told s c r ≡ row_tells (Err q) ↔ reading s ≡ refuses q
   font_refusals_of_row = row-calls.told_font s c r
 
   -- "A row request gives the row as a part of the font."
-  row_is_a_part : (p w : ℕ) → row_told s c r ≡ row_tells (NotRefused p w) → (row_bytes s c r ≡ take w (drop p s)) × (p + w ≤ length s)
+  row_is_a_part : (p w : ℕ) → row_told s c r ≡ row_tells (Ok (record { place = p; width = w })) → (row_bytes s c r ≡ take w (drop p s)) × (p + w ≤ length s)
   row_is_a_part = row-calls.part-told s c r
 
   -- "A refused row is empty."
@@ -545,13 +523,13 @@ other_characters_tagged : (s : List ℕ) (h : Header) (es : List Entry) → read
 other_characters_tagged = fonts.font_tagged
 
 -- "When codes repeat, the last is used.
-last_of_repeated_codes : (z : ℤ) (codes : List ℤ) (k : ℕ) → last_at z codes ≡ At k → Last z codes k
+last_of_repeated_codes : (z : ℤ) (codes : List ℤ) (k : ℕ) → last_at z codes ≡ Some k → Last z codes k
 last_of_repeated_codes = looking.at_last
 
 -- Otherwise the character with code 0 stands in; if there is none, nothing is drawn."
-code_0_stands_in : (c : Code) (codes : List ℤ) → last_at c.0 codes ≡ Nowhere → look_up c codes ≡ last_at (pos 0) codes
+code_0_stands_in : (c : Code) (codes : List ℤ) → last_at c.0 codes ≡ None → look_up c codes ≡ last_at (pos 0) codes
 unfolding look_up
-code_0_stands_in c codes e = ap (λ (f : Found). or_stand_in f (last_at (pos 0) codes)) e
+code_0_stands_in c codes e = ap (λ (f : Option ℕ). or_stand_in f (last_at (pos 0) codes)) e
 
 -- "Within a stage the first command that fits acts, once."
 first_command_acts : (before : List Command) (c : Command) (bs : List Command) (z : Code) → NoneFits z before → fits c z ≡ true → through_stage (before ++ (c ∷ bs)) z ≡ new_code c z
@@ -561,11 +539,11 @@ no_command_fits : (cs : List Command) (z : Code) → NoneFits z cs → through_s
 no_command_fits = mapping.passes_through
 
 -- "No pair is joined by two rules."
-no_pair_by_two_rules : (h l r : ℕ) (p q : Rule) (x z : ℕ) → by_rule p h l r ≡ some x → by_rule q h l r ≡ some z → p ≡ q
+no_pair_by_two_rules : (h l r : ℕ) (p q : Rule) (x z : ℕ) → by_rule p h l r ≡ Some x → by_rule q h l r ≡ Some z → p ≡ q
 no_pair_by_two_rules = rules.one_rule
 
 -- "Its rule in the set": a rule of the set that joins a pair without a blank gives its byte.
-rule_of_the_set_joins : (set h l r : ℕ) (rule : Rule) (x : ℕ) → in_set set rule ≡ true → by_rule rule h l r ≡ some x → controlled set h l r ≡ ByRule rule (record { 0 = x })
+rule_of_the_set_joins : (set h l r : ℕ) (rule : Rule) (x : ℕ) → in_set set rule ≡ true → by_rule rule h l r ≡ Some x → controlled set h l r ≡ ByRule rule (record { 0 = x })
 rule_of_the_set_joins = sets.controlled-by
 
 -- "Universal joins every pair."
@@ -727,7 +705,7 @@ module _ (full : ℕ) where
   full_layout_full_height e f = rw (e, f)
 
 -- "The five rules of source document 000": no pair is joined by two of the four but 4096.
-no_pair_by_two_vertical_rules : (u l : ℕ) (p q : VerticalRule) (x y : ℕ) → (p ≡ VerticalLine → ⊥) → (q ≡ VerticalLine → ⊥) → rule_merges p u l ≡ some x → rule_merges q u l ≡ some y → p ≡ q
+no_pair_by_two_vertical_rules : (u l : ℕ) (p q : VerticalRule) (x y : ℕ) → (p ≡ VerticalLine → ⊥) → (q ≡ VerticalLine → ⊥) → rule_merges p u l ≡ Some x → rule_merges q u l ≡ Some y → p ≡ q
 no_pair_by_two_vertical_rules = vertical-rules.no_two_rules
 
 -- "For universal the lower block is the later one": of two visible sub-characters the lower one stands.
@@ -942,7 +920,7 @@ module _ (layout : VerticalLayout) (hardblank n upperWidth : ℕ) (upper : List 
   refusal_9_of_stack = stack-answers.exactly_9 layout hardblank n upperWidth upper m lowerWidth lower room
 
   -- Otherwise the answer is overlap, height and width of the result.
-  stack_stacks : stack_told layout hardblank n upperWidth upper m lowerWidth lower room ≡ stack_tells (Stacked stack_asked.overlap stack_asked.height stack_asked.block.width) ↔
+  stack_stacks : stack_told layout hardblank n upperWidth upper m lowerWidth lower room ≡ stack_tells (stacking stack_asked.overlap stack_asked.height stack_asked.block.width) ↔
       ((bad → ⊥) × (stack_asked.height ≤ max_stack_height) × (stack_asked.height * stack_asked.block.width ≤ room))
   stack_stacks = stack-answers.exactly_stacked layout hardblank n upperWidth upper m lowerWidth lower room
 
@@ -960,7 +938,7 @@ module _ (layout : VerticalLayout) (hardblank n upperWidth : ℕ) (upper : List 
   stack_byte = stacked-byte layout hardblank n upperWidth upper m lowerWidth lower room
 
 -- "Vertical full height (also without Full_Layout)."
-absent_full_layout_full_height : vertical_of Absent ≡ vertical.FullHeight
+absent_full_layout_full_height : vertical_of None ≡ vertical.FullHeight
 absent_full_layout_full_height = refl
 
 -- Two texts drawn by a font s and a control file, one above the other: "9 (scratch under 64,000 ..), the font's, the control file's, 15 (either text), .. 16
@@ -989,19 +967,19 @@ module _ (size : ℕ) (s control upper lower : List ℕ) (room : ℕ) where
   abbrev lines_drawn : TwoLines
   lines_drawn = draw_lines size s control upper lower
 
-  abbrev DrawsStacked : StackAnswer → Type 0
+  abbrev DrawsStacked : Result Stacked Refusal → Type 0
   DrawsStacked a = lines_told lines_drawn room ≡ stack_tells a
 
-  font_refusals_of_draw_stacked : (r : Refusal) → r.number ≤ too_many_characters → DrawsStacked (stack_is.Refused r) ↔ ((min_stacked_scratch ≤ size) × (reading s ≡ refuses r))
+  font_refusals_of_draw_stacked : (r : Refusal) → number_of r.reason ≤ number_of too_many_characters → DrawsStacked (Err r) ↔ ((min_stacked_scratch ≤ size) × (reading s ≡ refuses r))
   font_refusals_of_draw_stacked = line-rows.row_font size s control upper lower room
 
-  control_refusals_of_draw_stacked : (r : Refusal) → control_file_too_long ≤ r.number → r.number ≤ too_many_commands →
-      DrawsStacked (stack_is.Refused r) ↔ ((min_stacked_scratch ≤ size) × (h : Header) × (es : List Entry) × (reading s ≡ says h es) × (flc.control control ≡ flc.refuses r))
+  control_refusals_of_draw_stacked : (r : Refusal) → number_of control_file_too_long ≤ number_of r.reason → number_of r.reason ≤ number_of too_many_commands →
+      DrawsStacked (Err r) ↔ ((min_stacked_scratch ≤ size) × (h : Header) × (es : List Entry) × (reading s ≡ says h es) × (flc.control control ≡ flc.refuses r))
   control_refusals_of_draw_stacked = line-rows.row-control size s control upper lower room
 
   -- 9, at 0: the scratch, or else, behind all others, the output, each row of the stack and an LF.
   refusal_9_of_draw_stacked : (p : ℕ) →
-      DrawsStacked (stack_is.Refused (refusal area_too_small p)) ↔
+      DrawsStacked (Err (refusal area_too_small p)) ↔
       ((p ≡ 0) ×
       ((size < min_stacked_scratch) ⊎
       ((h : Header) × (es : List Entry) × (cs : List Command) × (k : ℕ) × (BothFilesSay h es cs k) × (BothLinesFit h es cs k) ×
@@ -1010,31 +988,31 @@ module _ (size : ℕ) (s control upper lower : List ℕ) (room : ℕ) where
 
   -- 15, at 0, "either text".
   refusal_15_of_draw_stacked : (p : ℕ) →
-      DrawsStacked (stack_is.Refused (refusal text_too_long p)) ↔
+      DrawsStacked (Err (refusal text_too_long p)) ↔
       ((p ≡ 0) × (h : Header) × (es : List Entry) × (cs : List Command) × (k : ℕ) × (BothFilesSay h es cs k) × ((max_text < length upper) ⊎ (max_text < length lower)))
   refusal_15_of_draw_stacked = line-rows.row_15 size s control upper lower room
 
   -- 16, at 0, "either line".
   refusal_16_of_draw_stacked : (p : ℕ) →
-      DrawsStacked (stack_is.Refused (refusal line_too_wide p)) ↔
+      DrawsStacked (Err (refusal line_too_wide p)) ↔
       ((p ≡ 0) × (h : Header) × (es : List Entry) × (cs : List Command) × (k : ℕ) × (BothFilesSay h es cs k) × (length upper ≤ max_text) × (length lower ≤ max_text) ×
       ((max_line_width < (upper_line h es cs k).width) ⊎ (max_line_width < (lower_line h es cs k).width)))
   refusal_16_of_draw_stacked = line-rows.row_16 size s control upper lower room
 
   -- Otherwise "overlap, height, width" of the stack.
   draws_stacked_otherwise : (o n w : ℕ) →
-      DrawsStacked (Stacked o n w) ↔
+      DrawsStacked (stacking o n w) ↔
       ((h : Header) × (es : List Entry) × (cs : List Command) × (k : ℕ) × (BothFilesSay h es cs k) × (BothLinesFit h es cs k) ×
       ((lines_stacked h es cs k).height * ((lines_stacked h es cs k).block.width + 1) ≤ room) ×
       (o ≡ (lines_stacked h es cs k).overlap) × (n ≡ (lines_stacked h es cs k).height) × (w ≡ (lines_stacked h es cs k).block.width))
   draws_stacked_otherwise = line-rows.row-stacked size s control upper lower room
 
   -- It has no refusal but those from 1 to 16:
-  refusals_of_draw_stacked : (lines_told lines_drawn room).refused ≡ true → (font_too_long ≤ (lines_told lines_drawn room).number) × ((lines_told lines_drawn room).number ≤ line_too_wide)
+  refusals_of_draw_stacked : (lines_told lines_drawn room).refused ≡ true → (number_of font_too_long ≤ (lines_told lines_drawn room).number) × ((lines_told lines_drawn room).number ≤ number_of line_too_wide)
   refusals_of_draw_stacked e = ((line-answers.refused-tells size s control upper lower room e).number_from_1, (line-answers.refused-tells size s control upper lower room e).number_to_16)
 
   -- "18 cannot come (twice 32 rows)."
-  no_refusal_18_of_draw_stacked : (lines_told lines_drawn room).number ≡ stack_too_high → ⊥
+  no_refusal_18_of_draw_stacked : (lines_told lines_drawn room).number ≡ number_of stack_too_high → ⊥
   no_refusal_18_of_draw_stacked = line-answers.never_18 size s control upper lower room
 
   -- "A refusal fills every lent writable area with zeros"; the scratch is zeros after every answer by the call's contract.
@@ -1100,7 +1078,7 @@ code_0_is_never_stood_in : (es : List Entry) (e : Entry) → looked_up (code (po
 code_0_is_never_stood_in = three-cases.zero_never_stood_in
 
 -- "Look-up answers found .., stood in .., nothing, or refused": one of three exactly if the font is read and its characters say so,
-look_up_of_a_font : (s : List ℕ) (c : Code) (u : LookedUp) → look_up_told s c ≡ look_up_tells (look-up-is.Looked u) ↔ ((h : Header) × (es : List Entry) × (reading s ≡ says h es) × (looked_up c es ≡ u))
+look_up_of_a_font : (s : List ℕ) (c : Code) (u : LookedUp) → look_up_told s c ≡ look_up_tells (Ok u) ↔ ((h : Header) × (es : List Entry) × (reading s ≡ says h es) × (looked_up c es ≡ u))
 look_up_of_a_font = look-ups.looked_exactly
 
 -- "so does `find_in` over a lent index": of its first entries.
@@ -1153,8 +1131,8 @@ dropped_blanks = row-lines.trimmed-is
 module _ (f : Format) where
   -- Document 01's rule: "A row line loses its last block of equal bytes. .. Refusal 6: the line is empty, is longer than Max_Length with its marks, .. or its row holds a byte
   -- under 32 that is not the hardblank."
-  abbrev first_rule : List ℕ → RowStep
-  first_rule t = cond (ltb 0 (length t) && leb (length t) f.max_length && all (legal_byte f.hardblank.0) (unmarked t)) (row_is.Width (length (unmarked t))) row_is.BadRow
+  abbrev first_rule : List ℕ → Option ℕ
+  first_rule t = cond (ltb 0 (length t) && leb (length t) f.max_length && all (legal_byte f.hardblank.0) (unmarked t)) (Some (length (unmarked t))) None
 
   -- "Blanks and tabs at a row line's end are dropped first, then the last block of equal bytes. Max_Length is tested after dropping": that rule, on what is left.
   dropped_first : (t : List ℕ) → (row_of f t ≡ first_rule (trimmed t)) × (row t ≡ unmarked (trimmed t))
@@ -1166,7 +1144,7 @@ module _ (f : Format) where
   same_without_blanks = row-lines.means_the_same f
 
   -- and one of these that was legal is legal, with the same row.
-  still_legal : (t : List ℕ) (w : ℕ) → EndsOtherwise t → first_rule t ≡ row_is.Width w → (row_of f t ≡ row_is.Width w) × (row t ≡ unmarked t)
+  still_legal : (t : List ℕ) (w : ℕ) → EndsOtherwise t → first_rule t ≡ Some w → (row_of f t ≡ Some w) × (row t ≡ unmarked t)
   still_legal = row-lines.still_legal f
 
   -- With any number of blanks and tabs behind it, a line means the same as without them,
@@ -1175,11 +1153,11 @@ module _ (f : Format) where
 
   -- and so do the lines of a character, in two fonts of any size: where the one is read with a width, the other is.
   same-characters : (size other w : ℕ) (ls ms : List TextLine) → map (λ (l : TextLine). trimmed l.text) ls ≡ map (λ (l : TextLine). trimmed l.text) ms →
-      character_rows f size ls ≡ read w → character_rows f other ms ≡ read w
+      character_rows f size ls ≡ Ok w → character_rows f other ms ≡ Ok w
   same-characters = row-lines.characters-alike f
 
   -- "A line of only blanks and tabs is now refused":
-  only_blanks_refused : (t : List ℕ) → all is_blank t ≡ true → row_of f t ≡ row_is.BadRow
+  only_blanks_refused : (t : List ℕ) → all is_blank t ≡ true → row_of f t ≡ None
   only_blanks_refused = row-lines.only_blanks f
 
 -- it, and the empty line, are those of which nothing is left.
@@ -1192,7 +1170,7 @@ Marked t =
     (m : ℕ) × (marks : List ℕ) × (behind : List ℕ) × (t ≡ row t ++ (marks ++ behind)) ×
     (0 < length marks) × (all (eqb m) marks ≡ true) × ((q : List ℕ) → row t ≡ q ++ (m ∷ []) → ⊥) × (is_blank m ≡ false) × (all is_blank behind ≡ true)
 
-never_an_endmark : (f : Format) (t : List ℕ) (w : ℕ) → row_of f t ≡ row_is.Width w → Marked t
+never_an_endmark : (f : Format) (t : List ℕ) (w : ℕ) → row_of f t ≡ Some w → Marked t
 never_an_endmark = row-lines.row-marked
 
 -- And bytes q that stand so on a line, before such a block with blanks and tabs behind it, are its row.
@@ -1201,7 +1179,7 @@ row_so_marked : (q marks behind : List ℕ) (m : ℕ) →
 row_so_marked = row-lines.row_so_marked
 
 -- "Demand 2 reads the mended rule": so is the line of every row that a row request gives.
-row_given_by_the_rule : (s : List ℕ) (c : Code) (r p w : ℕ) → row_told s c r ≡ row_tells (NotRefused p w) → Marked (text_at s p) × (row_bytes s c r ≡ row (text_at s p))
+row_given_by_the_rule : (s : List ℕ) (c : Code) (r p w : ℕ) → row_told s c r ≡ row_tells (Ok (record { place = p; width = w })) → Marked (text_at s p) × (row_bytes s c r ≡ row (text_at s p))
 row_given_by_the_rule = row-calls.line-told
 
 -- ================================================================ document 02, Q-4
@@ -1238,10 +1216,10 @@ module _ (firstRoom endRoom size : ℕ) (s control : List ℕ) (limit : ℕ) (te
   abbrev Wraps : WrapAnswer → Type 0
   Wraps a = wrap_answer (wrap_in room wrap_drawn) ≡ a
 
-  font_refusals_of_draw_wrapped : (r : Refusal) → r.number ≤ too_many_characters → Wraps (wrap-is.Refused r) ↔ (ListsEnough × (reading s ≡ refuses r))
+  font_refusals_of_draw_wrapped : (r : Refusal) → number_of r.reason ≤ number_of too_many_characters → Wraps (wrap-is.Refused r) ↔ (ListsEnough × (reading s ≡ refuses r))
   font_refusals_of_draw_wrapped = wrap-rows.row_font firstRoom endRoom size s control limit text room
 
-  control_refusals_of_draw_wrapped : (r : Refusal) → control_file_too_long ≤ r.number → r.number ≤ too_many_commands →
+  control_refusals_of_draw_wrapped : (r : Refusal) → number_of control_file_too_long ≤ number_of r.reason → number_of r.reason ≤ number_of too_many_commands →
       Wraps (wrap-is.Refused r) ↔ (ListsEnough × (h : Header) × (es : List Entry) × (reading s ≡ says h es) × (flc.control control ≡ flc.refuses r))
   control_refusals_of_draw_wrapped = wrap-rows.row-control firstRoom endRoom size s control limit text room
 
@@ -1374,13 +1352,13 @@ module _ (hardblank left right : ℕ) (left-seen : left ≡ blank → ⊥) (righ
 -- A pack that check accepts, its bytes s, says a head and records; a change was done, and its bytes are `new`.
 module _ (s new : List ℕ) (f : Head) (rs : List (List ℕ)) (accepted : heads.meaning s ≡ heads.says f rs) where
   abbrev Removed : ℕ → Type 0
-  Removed code = calls.Changes (calls.removal (heads.meaning s) code) s edit-is.Done new
+  Removed code = calls.Changes (calls.removal (heads.meaning s) code) s (Ok tt) new
 
   abbrev Put : ℕ → ℕ → List ℕ → Type 0
-  Put code width rows = calls.Changes (calls.insertion (heads.meaning s) (length s) code width rows) s edit-is.Done new
+  Put code width rows = calls.Changes (calls.insertion (heads.meaning s) (length s) code width rows) s (Ok tt) new
 
   abbrev Compacted : Type 0
-  Compacted = calls.Changes (calls.compaction (heads.meaning s)) s edit-is.Done new
+  Compacted = calls.Changes (calls.compaction (heads.meaning s)) s (Ok tt) new
 
   -- "Each change leaves a pack that check accepts": it says the records as they then are.
   remove_leaves_a_pack : (code : ℕ) → Removed code → heads.meaning new ≡ heads.says f (edits.removed code rs)
@@ -1394,13 +1372,13 @@ module _ (s new : List ℕ) (f : Head) (rs : List (List ℕ)) (accepted : heads.
   compact_leaves_the_live = outcomes.compact_outcome s new f rs accepted
 
   -- Check accepts it, with the same height and the live records that it then has.
-  check_accepts_after_remove : (code : ℕ) → Removed code → calls.check_told (heads.meaning new) ≡ pack-is.Accepted f.height (live_count (edits.removed code rs))
+  check_accepts_after_remove : (code : ℕ) → Removed code → calls.check_told (heads.meaning new) ≡ Ok (record { height = f.height; live = live_count (edits.removed code rs) })
   check_accepts_after_remove code x = outcomes.check_accepts new f _ (remove_leaves_a_pack code x)
 
-  check_accepts_after_put : (code width : ℕ) (rows : List ℕ) → code < 4294967296 → Put code width rows → calls.check_told (heads.meaning new) ≡ pack-is.Accepted f.height (live_count (edits.placed f width (edits.new_record f.version code width rows) rs))
+  check_accepts_after_put : (code width : ℕ) (rows : List ℕ) → code < 4294967296 → Put code width rows → calls.check_told (heads.meaning new) ≡ Ok (record { height = f.height; live = live_count (edits.placed f width (edits.new_record f.version code width rows) rs) })
   check_accepts_after_put code width rows c x = outcomes.check_accepts new f _ (put_leaves_a_pack code width rows c x)
 
-  check_accepts_after_compact : Compacted → calls.check_told (heads.meaning new) ≡ pack-is.Accepted f.height (live_count (edits.kept rs))
+  check_accepts_after_compact : Compacted → calls.check_told (heads.meaning new) ≡ Ok (record { height = f.height; live = live_count (edits.kept rs) })
   check_accepts_after_compact x = outcomes.check_accepts new f _ (compact_leaves_the_live x)
 
   -- "Find after put, remove and compact (the code itself, and every other code: same width and rows)."
@@ -1438,7 +1416,7 @@ module _ (s new : List ℕ) (f : Head) (rs : List (List ℕ)) (accepted : heads.
   compact_keeps_the_length = outcomes.compact_length s new f rs accepted
 
 -- "A refusal leaves a pack's bytes as they were lent", whatever change was asked.
-refusal_keeps_the_pack : (x : calls.Change) (s new : List ℕ) (r : Refusal) → calls.Changes x s (edit-is.Refused r) new → new ≡ s
+refusal_keeps_the_pack : (x : calls.Change) (s new : List ℕ) (r : Refusal) → calls.Changes x s (Err r) new → new ≡ s
 refusal_keeps_the_pack = outcomes.refusal_keeps
 
 -- "It has no room exactly when neither exists": of a good letter whose code is absent, 23 is given exactly when there is no free record of its width and the tail is too short.
@@ -1482,58 +1460,58 @@ module _ (s : List ℕ) where
   damaged_exactly_when = damage.damaged_when s
 
   -- Check: "20 damaged pack", at 0, and no other refusal; otherwise "height and how many live records".
-  refusals_of_pack_check : (r : Refusal) → calls.check_told (heads.meaning s) ≡ pack-is.Refused r ↔ ((r.number ≡ damaged_pack) × (r.place ≡ 0) × (heads.meaning s ≡ heads.damaged))
+  refusals_of_pack_check : (r : Refusal) → calls.check_told (heads.meaning s) ≡ Err r ↔ ((r.reason ≡ damaged_pack) × (r.place ≡ 0) × (heads.meaning s ≡ heads.damaged))
   refusals_of_pack_check = pack-rows.check_row s
 
-  pack_check_otherwise : (h n : ℕ) → calls.check_told (heads.meaning s) ≡ pack-is.Accepted h n ↔ ((f : Head) × (rs : List (List ℕ)) × (heads.meaning s ≡ heads.says f rs) × (h ≡ f.height) × (n ≡ live_count rs))
+  pack_check_otherwise : (h n : ℕ) → calls.check_told (heads.meaning s) ≡ Ok (record { height = h; live = n }) ↔ ((f : Head) × (rs : List (List ℕ)) × (heads.meaning s ≡ heads.says f rs) × (h ≡ f.height) × (n ≡ live_count rs))
   pack_check_otherwise = pack-rows.check_accepted s
 
   -- Compact: 20, at 0, and no other.
-  refusals_of_pack_compact : (r : Refusal) → calls.tells (calls.compaction (heads.meaning s)) ≡ edit-is.Refused r ↔ ((r.number ≡ damaged_pack) × (r.place ≡ 0) × (heads.meaning s ≡ heads.damaged))
+  refusals_of_pack_compact : (r : Refusal) → calls.tells (calls.compaction (heads.meaning s)) ≡ Err r ↔ ((r.reason ≡ damaged_pack) × (r.place ≡ 0) × (heads.meaning s ≡ heads.damaged))
   refusals_of_pack_compact = pack-rows.compact_row s
 
-  pack_compact_otherwise : calls.tells (calls.compaction (heads.meaning s)) ≡ edit-is.Done ↔ ((f : Head) × (rs : List (List ℕ)) × (heads.meaning s ≡ heads.says f rs))
+  pack_compact_otherwise : calls.tells (calls.compaction (heads.meaning s)) ≡ (Ok tt) ↔ ((f : Head) × (rs : List (List ℕ)) × (heads.meaning s ≡ heads.says f rs))
   pack_compact_otherwise = pack-rows.compact_done s
 
   -- Find and remove: "20, 17 (code -1), 22", each at 0.
   module _ (code : ℕ) where
-    abbrev Finds : FindAnswer → Type 0
+    abbrev Finds : Result Found Refusal → Type 0
     Finds a = calls.find_told (heads.meaning s) code ≡ a
 
-    refusal_20_of_pack_find : (p : ℕ) → Finds (find-is.Refused (refusal damaged_pack p)) ↔ ((p ≡ 0) × (heads.meaning s ≡ heads.damaged))
+    refusal_20_of_pack_find : (p : ℕ) → Finds (Err (refusal damaged_pack p)) ↔ ((p ≡ 0) × (heads.meaning s ≡ heads.damaged))
     refusal_20_of_pack_find = pack-rows.find_20 s code
 
-    refusal_17_of_pack_find : (p : ℕ) → Finds (find-is.Refused (refusal bad_shape p)) ↔ ((p ≡ 0) × ((f : Head) × (rs : List (List ℕ)) × (heads.meaning s ≡ heads.says f rs) × (code ≡ minus_one)))
+    refusal_17_of_pack_find : (p : ℕ) → Finds (Err (refusal bad_shape p)) ↔ ((p ≡ 0) × ((f : Head) × (rs : List (List ℕ)) × (heads.meaning s ≡ heads.says f rs) × (code ≡ minus_one)))
     refusal_17_of_pack_find = pack-rows.find_17 s code
 
-    refusal_22_of_pack_find : (p : ℕ) → Finds (find-is.Refused (refusal code_absent p)) ↔ ((p ≡ 0) × ((f : Head) × (rs : List (List ℕ)) × (heads.meaning s ≡ heads.says f rs) × (code ≡ minus_one → ⊥) × (has_live code rs ≡ false)))
+    refusal_22_of_pack_find : (p : ℕ) → Finds (Err (refusal code_absent p)) ↔ ((p ≡ 0) × ((f : Head) × (rs : List (List ℕ)) × (heads.meaning s ≡ heads.says f rs) × (code ≡ minus_one → ⊥) × (has_live code rs ≡ false)))
     refusal_22_of_pack_find = pack-rows.find_22 s code
 
     -- Otherwise the place of the rows of its live record, and the width.
     pack_find_otherwise : (p w : ℕ) →
-        Finds (find-is.Found p w) ↔
+        Finds (Ok (record { place = p; width = w })) ↔
         ((f : Head) × (rs : List (List ℕ)) × ((heads.meaning s ≡ heads.says f rs) × (code ≡ minus_one → ⊥) × (has_live code rs ≡ true)) × (at : ℕ) ×
-        (place_in f code (head_length f.version) rs ≡ place_is.At at w) × (p ≡ at + record_head_length f.version))
+        (place_in f code (head_length f.version) rs ≡ Some (record { at = at; width = w })) × (p ≡ at + record_head_length f.version))
     pack_find_otherwise = pack-rows.find_found s code
 
-    abbrev Removes : EditAnswer → Type 0
+    abbrev Removes : Result Unit Refusal → Type 0
     Removes a = calls.tells (calls.removal (heads.meaning s) code) ≡ a
 
-    refusal_20_of_pack_remove : (p : ℕ) → Removes (edit-is.Refused (refusal damaged_pack p)) ↔ ((p ≡ 0) × (heads.meaning s ≡ heads.damaged))
+    refusal_20_of_pack_remove : (p : ℕ) → Removes (Err (refusal damaged_pack p)) ↔ ((p ≡ 0) × (heads.meaning s ≡ heads.damaged))
     refusal_20_of_pack_remove = pack-rows.remove_20 s code
 
-    refusal_17_of_pack_remove : (p : ℕ) → Removes (edit-is.Refused (refusal bad_shape p)) ↔ ((p ≡ 0) × ((f : Head) × (rs : List (List ℕ)) × (heads.meaning s ≡ heads.says f rs) × (code ≡ minus_one)))
+    refusal_17_of_pack_remove : (p : ℕ) → Removes (Err (refusal bad_shape p)) ↔ ((p ≡ 0) × ((f : Head) × (rs : List (List ℕ)) × (heads.meaning s ≡ heads.says f rs) × (code ≡ minus_one)))
     refusal_17_of_pack_remove = pack-rows.remove_17 s code
 
-    refusal_22_of_pack_remove : (p : ℕ) → Removes (edit-is.Refused (refusal code_absent p)) ↔ ((p ≡ 0) × ((f : Head) × (rs : List (List ℕ)) × (heads.meaning s ≡ heads.says f rs) × (code ≡ minus_one → ⊥) × (has_live code rs ≡ false)))
+    refusal_22_of_pack_remove : (p : ℕ) → Removes (Err (refusal code_absent p)) ↔ ((p ≡ 0) × ((f : Head) × (rs : List (List ℕ)) × (heads.meaning s ≡ heads.says f rs) × (code ≡ minus_one → ⊥) × (has_live code rs ≡ false)))
     refusal_22_of_pack_remove = pack-rows.remove_22 s code
 
-    pack_remove_otherwise : Removes edit-is.Done ↔ ((f : Head) × (rs : List (List ℕ)) × ((heads.meaning s ≡ heads.says f rs) × (code ≡ minus_one → ⊥) × (has_live code rs ≡ true)))
+    pack_remove_otherwise : Removes (Ok tt) ↔ ((f : Head) × (rs : List (List ℕ)) × ((heads.meaning s ≡ heads.says f rs) × (code ≡ minus_one → ⊥) × (has_live code rs ≡ true)))
     pack_remove_otherwise = pack-rows.remove_done s code
 
   -- Put: 20, 17, 21, 23, each at 0.
   module _ (code width : ℕ) (rows : List ℕ) where
-    abbrev Puts : EditAnswer → Type 0
+    abbrev Puts : Result Unit Refusal → Type 0
     Puts a = calls.tells (calls.insertion (heads.meaning s) (length s) code width rows) ≡ a
 
     -- "17 for .. code -1 or a letter of such a width or row byte or not Height times width long".
@@ -1544,23 +1522,23 @@ module _ (s : List ℕ) where
     abbrev end_behind : Head → List (List ℕ) → ℕ
     end_behind f rs = head_length f.version + length (joined rs) + (record_head_length f.version + f.height * width)
 
-    refusal_20_of_pack_put : (p : ℕ) → Puts (edit-is.Refused (refusal damaged_pack p)) ↔ ((p ≡ 0) × (heads.meaning s ≡ heads.damaged))
+    refusal_20_of_pack_put : (p : ℕ) → Puts (Err (refusal damaged_pack p)) ↔ ((p ≡ 0) × (heads.meaning s ≡ heads.damaged))
     refusal_20_of_pack_put = pack-rows.put_20 s code width rows
 
-    refusal_17_of_pack_put : (p : ℕ) → Puts (edit-is.Refused (refusal bad_shape p)) ↔ ((p ≡ 0) × ((f : Head) × (rs : List (List ℕ)) × (heads.meaning s ≡ heads.says f rs) × LetterBad f))
+    refusal_17_of_pack_put : (p : ℕ) → Puts (Err (refusal bad_shape p)) ↔ ((p ≡ 0) × ((f : Head) × (rs : List (List ℕ)) × (heads.meaning s ≡ heads.says f rs) × LetterBad f))
     refusal_17_of_pack_put = pack-rows.put_17 s code width rows
 
-    refusal_21_of_pack_put : (p : ℕ) → Puts (edit-is.Refused (refusal code_present p)) ↔ ((p ≡ 0) × ((f : Head) × (rs : List (List ℕ)) × (heads.meaning s ≡ heads.says f rs) × (LetterBad f → ⊥) × (has_live code rs ≡ true)))
+    refusal_21_of_pack_put : (p : ℕ) → Puts (Err (refusal code_present p)) ↔ ((p ≡ 0) × ((f : Head) × (rs : List (List ℕ)) × (heads.meaning s ≡ heads.says f rs) × (LetterBad f → ⊥) × (has_live code rs ≡ true)))
     refusal_21_of_pack_put = pack-rows.put_21 s code width rows
 
     -- "It has no room exactly when neither exists": a free record of the width, or a tail that the record fits.
     refusal_23_of_pack_put : (p : ℕ) →
-        Puts (edit-is.Refused (refusal no_room p)) ↔
+        Puts (Err (refusal no_room p)) ↔
         ((p ≡ 0) × ((f : Head) × (rs : List (List ℕ)) × (heads.meaning s ≡ heads.says f rs) × (LetterBad f → ⊥) × (has_live code rs ≡ false) × ((edits.has_free f width rs ≡ false) × (length s < end_behind f rs))))
     refusal_23_of_pack_put = pack-rows.put_23 s code width rows
 
     pack_put_otherwise :
-        Puts edit-is.Done ↔
+        Puts (Ok tt) ↔
         ((f : Head) × (rs : List (List ℕ)) × (heads.meaning s ≡ heads.says f rs) × (LetterBad f → ⊥) × (has_live code rs ≡ false) × ((edits.has_free f width rs ≡ true) ⊎ (end_behind f rs ≤ length s)))
     pack_put_otherwise = pack-rows.put_done s code width rows
 
@@ -1605,7 +1583,7 @@ module _ (size : ℕ) (t : List ℕ) (layout : Layout) (direction : Direction) (
   refusal_17_of_draw_pack : (p : ℕ) → PackDraws (draw-is.Refused (refusal bad_shape p)) ↔ ((p ≡ 0) × (min_scratch ≤ size) × (f : Head) × (rs : List (List ℕ)) × (heads.meaning t ≡ heads.says f rs) × LayoutBad)
   refusal_17_of_draw_pack = pack-drawing.row_17 size t layout direction control text room
 
-  control_refusals_of_draw_pack : (r : Refusal) → control_file_too_long ≤ r.number → r.number ≤ too_many_commands →
+  control_refusals_of_draw_pack : (r : Refusal) → number_of control_file_too_long ≤ number_of r.reason → number_of r.reason ≤ number_of too_many_commands →
       PackDraws (draw-is.Refused r) ↔ ((f : Head) × (rs : List (List ℕ)) × PackSays f rs × (flc.control control ≡ flc.refuses r))
   control_refusals_of_draw_pack = pack-drawing.row-control size t layout direction control text room
 
@@ -1644,21 +1622,21 @@ module _ (size : ℕ) (t : List ℕ) (layout : Layout) (direction : Direction) (
 -- "A code missing from the first is sought in the second before any stand-in, then code 0 in the first, then in the second": each try is used exactly if none before it is there. The
 -- characters of the first font are es, those of the second fs.
 module _ (c : Code) (es fs : List Entry) where
-  code_in_the_first : (e : Entry) → looked_up_in_two c es fs ≡ in_two.Found which-is.First e ↔ (last_of c.0 es ≡ use-is.Used e)
+  code_in_the_first : (e : Entry) → looked_up_in_two c es fs ≡ in_two.Found which-is.First e ↔ (last_of c.0 es ≡ Some e)
   code_in_the_first = two-fonts.first_try_lem c es fs
 
-  code_in_the_second : (e : Entry) → looked_up_in_two c es fs ≡ in_two.Found which-is.Second e ↔ ((last_of c.0 es ≡ use-is.Nothing) × (last_of c.0 fs ≡ use-is.Used e))
+  code_in_the_second : (e : Entry) → looked_up_in_two c es fs ≡ in_two.Found which-is.Second e ↔ ((last_of c.0 es ≡ None) × (last_of c.0 fs ≡ Some e))
   code_in_the_second = two-fonts.second_try c es fs
 
-  code_0_in_the_first : (e : Entry) → looked_up_in_two c es fs ≡ in_two.StoodIn which-is.First e ↔ ((last_of c.0 es ≡ use-is.Nothing) × (last_of c.0 fs ≡ use-is.Nothing) × (last_of (pos 0) es ≡ use-is.Used e))
+  code_0_in_the_first : (e : Entry) → looked_up_in_two c es fs ≡ in_two.StoodIn which-is.First e ↔ ((last_of c.0 es ≡ None) × (last_of c.0 fs ≡ None) × (last_of (pos 0) es ≡ Some e))
   code_0_in_the_first = two-fonts.third_try c es fs
 
   code_0_in_the_second : (e : Entry) →
-      looked_up_in_two c es fs ≡ in_two.StoodIn which-is.Second e ↔ ((last_of c.0 es ≡ use-is.Nothing) × (last_of c.0 fs ≡ use-is.Nothing) × (last_of (pos 0) es ≡ use-is.Nothing) × (last_of (pos 0) fs ≡ use-is.Used e))
+      looked_up_in_two c es fs ≡ in_two.StoodIn which-is.Second e ↔ ((last_of c.0 es ≡ None) × (last_of c.0 fs ≡ None) × (last_of (pos 0) es ≡ None) × (last_of (pos 0) fs ≡ Some e))
   code_0_in_the_second = two-fonts.fourth_try c es fs
 
   neither_font_has_any :
-      looked_up_in_two c es fs ≡ in_two.Nothing ↔ ((last_of c.0 es ≡ use-is.Nothing) × (last_of c.0 fs ≡ use-is.Nothing) × (last_of (pos 0) es ≡ use-is.Nothing) × (last_of (pos 0) fs ≡ use-is.Nothing))
+      looked_up_in_two c es fs ≡ in_two.Nothing ↔ ((last_of c.0 es ≡ None) × (last_of c.0 fs ≡ None) × (last_of (pos 0) es ≡ None) × (last_of (pos 0) fs ≡ None))
   neither_font_has_any = two-fonts.no_try c es fs
 
 -- "24, heights or hardblanks differ."
@@ -1667,7 +1645,7 @@ fonts_differ_lem = two-fonts.differ_exactly
 
 -- The row request of two fonts, whose bytes are s and t: what it answers, exactly when.
 module _ (s t : List ℕ) (c : Code) (r : ℕ) where
-  font_refusals_of_row_of_two : (q : Refusal) → q.number ≤ too_many_characters →
+  font_refusals_of_row_of_two : (q : Refusal) → number_of q.reason ≤ number_of too_many_characters →
       row_of_two s t c r ≡ two-row-is.Refused q ↔ ((reading s ≡ refuses q) ⊎ ((h : Header) × (es : List Entry) × (reading s ≡ says h es) × (reading t ≡ refuses q)))
   font_refusals_of_row_of_two = two-requests.row-fonts s t c r
 
@@ -1701,7 +1679,7 @@ module _ (size : ℕ) (s t control text : List ℕ) (room : ℕ) where
   abbrev two_line_for : Header → List Entry → List Entry → List Command → ℕ → Block
   two_line_for h es fs cs k = line_of (mode_of h) h.height (two_source s t es fs) (text_codes cs k text)
 
-  font_refusals_of_draw_two : (r : Refusal) → r.number ≤ too_many_characters →
+  font_refusals_of_draw_two : (r : Refusal) → number_of r.reason ≤ number_of too_many_characters →
       TwoDraws (draw-is.Refused r) ↔ ((min_scratch ≤ size) × ((reading s ≡ refuses r) ⊎ ((h : Header) × (es : List Entry) × (reading s ≡ says h es) × (reading t ≡ refuses r))))
   font_refusals_of_draw_two = two-drawing.row-fonts size s t control text room
 
@@ -1710,7 +1688,7 @@ module _ (size : ℕ) (s t control text : List ℕ) (room : ℕ) where
       ((p ≡ 0) × (min_scratch ≤ size) × (h : Header) × (k : Header) × (es : List Entry) × (fs : List Entry) × (reading s ≡ says h es) × (reading t ≡ says k fs) × (alike h k ≡ false))
   refusal_24_of_draw_two = two-drawing.row_24 size s t control text room
 
-  control_refusals_of_draw_two : (r : Refusal) → control_file_too_long ≤ r.number → r.number ≤ too_many_commands →
+  control_refusals_of_draw_two : (r : Refusal) → number_of control_file_too_long ≤ number_of r.reason → number_of r.reason ≤ number_of too_many_commands →
       TwoDraws (draw-is.Refused r) ↔ ((min_scratch ≤ size) × (h : Header) × (es : List Entry) × (fs : List Entry) × BothSay s t h es fs × (flc.control control ≡ flc.refuses r))
   control_refusals_of_draw_two = two-drawing.row-control size s t control text room
 
@@ -1783,43 +1761,43 @@ module _ (size : ℕ) (s control text : List ℕ) where
   each_overlap_is_that_of_the_join = check-answers.right_each size s control text
 
   module _ (overlaps figure : List ℕ) where
-    abbrev Checks : CheckAnswer → Type 0
+    abbrev Checks : Result Verdict Refusal → Type 0
     Checks a = drawing_checked size s control text overlaps figure ≡ a
 
     -- "Accept exactly if each overlap is the one of demand 3 and the bytes are the drawing."
-    accepted_exactly_if : Checks check-is.Accepted ↔ ((x : CheckRead size s control text) × ((line_drawn x).width ≤ max_line_width) × (overlaps ≡ right_overlaps x) × (figure ≡ its_drawing x))
+    accepted_exactly_if : Checks (Ok check-is.Accepted) ↔ ((x : CheckRead size s control text) × ((line_drawn x).width ≤ max_line_width) × (overlaps ≡ right_overlaps x) × (figure ≡ its_drawing x))
     accepted_exactly_if = check-answers.accepted size s control text overlaps figure
 
     -- "The check names the first wrong overlap, else the first wrong byte; where one FIGure is the start of the other, that is the shorter one's end."
-    first_wrong_overlap : (k : ℕ) → Checks (check-is.WrongOverlap k) ↔ ((x : CheckRead size s control text) × ((line_drawn x).width ≤ max_line_width) × FirstWrong k (right_overlaps x) overlaps)
+    first_wrong_overlap : (k : ℕ) → Checks (Ok (check-is.WrongOverlap k)) ↔ ((x : CheckRead size s control text) × ((line_drawn x).width ≤ max_line_width) × FirstWrong k (right_overlaps x) overlaps)
     first_wrong_overlap = check-answers.wrong_overlap size s control text overlaps figure
 
-    first_wrong_byte : (p : ℕ) → Checks (check-is.WrongByte p) ↔ ((x : CheckRead size s control text) × ((line_drawn x).width ≤ max_line_width) × (overlaps ≡ right_overlaps x) × PartsFirst p (its_drawing x) figure)
+    first_wrong_byte : (p : ℕ) → Checks (Ok (check-is.WrongByte p)) ↔ ((x : CheckRead size s control text) × ((line_drawn x).width ≤ max_line_width) × (overlaps ≡ right_overlaps x) × PartsFirst p (its_drawing x) figure)
     first_wrong_byte = check-answers.wrong_byte size s control text overlaps figure
 
     -- "Refusals: the drawing's, first; a list of the wrong length is 25."
-    font_refusals_of_check_drawing : (r : Refusal) → r.number ≤ too_many_characters → Checks (check-is.Refused r) ↔ ((min_scratch ≤ size) × (reading s ≡ refuses r))
+    font_refusals_of_check_drawing : (r : Refusal) → number_of r.reason ≤ number_of too_many_characters → Checks (Err r) ↔ ((min_scratch ≤ size) × (reading s ≡ refuses r))
     font_refusals_of_check_drawing = check-answers.row_font size s control text overlaps figure
 
-    refusal_9_of_check_drawing : (p : ℕ) → Checks (check-is.Refused (refusal area_too_small p)) ↔ ((p ≡ 0) × (size < min_scratch))
+    refusal_9_of_check_drawing : (p : ℕ) → Checks (Err (refusal area_too_small p)) ↔ ((p ≡ 0) × (size < min_scratch))
     refusal_9_of_check_drawing = check-answers.row_9 size s control text overlaps figure
 
-    control_refusals_of_check_drawing : (r : Refusal) → control_file_too_long ≤ r.number → r.number ≤ too_many_commands →
-        Checks (check-is.Refused r) ↔ ((min_scratch ≤ size) × (h : Header) × (es : List Entry) × (reading s ≡ says h es) × (flc.control control ≡ flc.refuses r))
+    control_refusals_of_check_drawing : (r : Refusal) → number_of control_file_too_long ≤ number_of r.reason → number_of r.reason ≤ number_of too_many_commands →
+        Checks (Err r) ↔ ((min_scratch ≤ size) × (h : Header) × (es : List Entry) × (reading s ≡ says h es) × (flc.control control ≡ flc.refuses r))
     control_refusals_of_check_drawing = check-answers.row-control size s control text overlaps figure
 
     refusal_15_of_check_drawing : (p : ℕ) →
-        Checks (check-is.Refused (refusal text_too_long p)) ↔
+        Checks (Err (refusal text_too_long p)) ↔
         ((p ≡ 0) × (min_scratch ≤ size) × (h : Header) × (es : List Entry) × (reading s ≡ says h es) × (cs : List Command) × (k : ℕ) × (flc.control control ≡ flc.reads cs k) × (max_text < length text))
     refusal_15_of_check_drawing = check-answers.row_15 size s control text overlaps figure
 
-    refusal_16_of_check_drawing : (p : ℕ) → Checks (check-is.Refused (refusal line_too_wide p)) ↔ ((p ≡ 0) × (x : CheckRead size s control text) × (max_line_width < (line_drawn x).width))
+    refusal_16_of_check_drawing : (p : ℕ) → Checks (Err (refusal line_too_wide p)) ↔ ((p ≡ 0) × (x : CheckRead size s control text) × (max_line_width < (line_drawn x).width))
     refusal_16_of_check_drawing = check-answers.row_16 size s control text overlaps figure
 
-    refusal_25_of_check_drawing : (p : ℕ) → Checks (check-is.Refused (refusal wrong_length p)) ↔ ((p ≡ 0) × (x : CheckRead size s control text) × ((line_drawn x).width ≤ max_line_width) × (length overlaps ≡ length (right_overlaps x) → ⊥))
+    refusal_25_of_check_drawing : (p : ℕ) → Checks (Err (refusal wrong_length p)) ↔ ((p ≡ 0) × (x : CheckRead size s control text) × ((line_drawn x).width ≤ max_line_width) × (length overlaps ≡ length (right_overlaps x) → ⊥))
     refusal_25_of_check_drawing = check-answers.row_25 size s control text overlaps figure
 
   -- What `draw` puts out, with the overlaps of its trace, is accepted.
   own_drawing_accepted : (room w : ℕ) (n : Counts) → lined_answer (draw_lined size s control text) room ≡ draw-is.Drawn w n →
-      (x : CheckRead size s control text) × (drawing_checked size s control text (right_overlaps x) (bytes_of (draw_lined size s control text) room) ≡ check-is.Accepted)
+      (x : CheckRead size s control text) × (drawing_checked size s control text (right_overlaps x) (bytes_of (draw_lined size s control text) room) ≡ Ok check-is.Accepted)
   own_drawing_accepted = check-answers.own_drawing size s control text

@@ -16,8 +16,7 @@ use Rattle.blocks.specs.Block.{exact_block, left_of, right_of, rows_of}
 use Rattle.overlap.specs.Join.{besides}
 use Rattle.join.specs.JoinCall.{join_told, join_area}
 use Rattle.stack.specs.StackCall.{stack_of, stack_rows, stack_told, stack_area}
-use Rattle.showing.specs.declared.PutAnswer.{PutAnswer}
-use Rattle.showing.specs.declared.PutAnswer.TheVariants.{Put, Refused}
+use Rattle.std.specs.Prelude.{Result, Ok, Err}
 use Rattle.showing.specs.Output.{shown, output_of, put_only, output_bytes}
 use Rattle.font.specs.Font.{FontReading, refuses}
 use Rattle.entries.specs.Filling.{font_reading, zero_entry, index_of}
@@ -64,9 +63,9 @@ lined-none : (l : Lined) (room : ℕ) → (draw_tells (lined_answer l room)).ref
 unfolding lined_answer bytes_of output_bytes
 lined-none (lined y h l n) room q = put_none (output_of h l room) q
   where
-    put_none : (a : PutAnswer) → (draw_tells (with_counts n a)).refused ≡ true → put_only a (shown y.hardblank.0 h l) ≡ []
-    put_none (Put w) q = absurd (false≢true q)
-    put_none (Refused r) q = refl
+    put_none : (a : Result ℕ Refusal) → (draw_tells (with_counts n a)).refused ≡ true → put_only a (shown y.hardblank.0 h l) ≡ []
+    put_none (Ok w) q = absurd (false≢true q)
+    put_none (Err r) q = refl
 lined-none (unlined r) room q = refl
 
 pub lined_wiped : (l : Lined) (room : ℕ) (r : Refusal) → lined_answer l room ≡ drawn.Refused r → padded (bytes_of l room) room ≡ zeros room

@@ -2,6 +2,7 @@
 -- Assumes nothing.
 use Rattle.std.specs.Prelude.{ℕ, Bool, true, false, List}
 use Rattle.ground.specs.Area.{padded}
+use Rattle.ground.specs.Refusals.{number_of}
 use Rattle.drawing.specs.declared.DrawAnswer.{DrawAnswer}
 use Rattle.drawing.specs.declared.DrawAnswer.TheVariants.{Drawn, Refused}
 use Rattle.drawing.specs.Drawing.{draw_lined, lined_answer, bytes_of}
@@ -18,7 +19,7 @@ pub record DrawTold : Type 0 where
 
 abbrev pub draw_tells : DrawAnswer → DrawTold
 draw_tells (Drawn w n) = record { refused = false; number = 0; place = 0; width = w; stood_in = n.stood_in; nothing_drawn = n.nothing_drawn }
-draw_tells (Refused r) = record { refused = true; number = r.number; place = r.place; width = 0; stood_in = 0; nothing_drawn = 0 }
+draw_tells (Refused r) = record { refused = true; number = number_of r.reason; place = r.place; width = 0; stood_in = 0; nothing_drawn = 0 }
 
 -- The answer in an output of the given room, with a scratch of the given size.
 unfoldable pub draw_told : ℕ → List ℕ → List ℕ → List ℕ → ℕ → DrawTold

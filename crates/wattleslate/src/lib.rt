@@ -20,21 +20,22 @@ ghost use Rattle.wattleslate.specs.RowOfTwoCall.{row_of_two_bytes, LiesInOne};
 ghost use Rattle.wattleslate.specs.DrawCall.{draw_tells, draw_told, draw_output};
 
 pub use chars::Entry;
-pub use checking::CheckAnswer;
-pub use controlcalls::{MapAnswer, map_code, read_control};
+pub use checking::Verdict;
+pub use controlcalls::{map_code, read_control};
 pub use drawing::DrawAnswer;
 pub use entries::read_font;
 pub use finding::find_in;
-pub use flc::ControlAnswer;
-pub use fontcalls::{LookUpAnswer, RowRefusal, look_up, row, row_refusal};
+pub use flc::ControlRead;
+pub use fontcalls::{look_up, row, row_refusal};
 pub use fontlists::two::Which;
-pub use ground::refusals::Refusal;
-pub use header::{Given, Header};
-pub use join::JoinAnswer;
-pub use pack::{EditAnswer, FindAnswer, PackAnswer};
-pub use reader::{FontAnswer, LookedUp};
+pub use ground::refusals::{Reason, Refusal};
+pub use header::Header;
+pub use join::Joined;
+pub use pack::{Accepted, Found};
+pub use reader::{FontRead, LookedUp};
+pub use request::RowPlace;
 pub use source::Counts;
-pub use stack::StackAnswer;
+pub use stack::Stacked;
 use subchars::Mode;
 pub use subchars::{
     Code, Direction, Layout, Smushing, SubCharacter, VerticalLayout, VerticalSmushing,
@@ -55,7 +56,7 @@ pub fn join(
     layout: Layout,
     direction: Direction,
     out: &mut [u8],
-) -> JoinAnswer
+) -> Result<Joined, Refusal>
     ensures { JoinGives (record { layout = layout; direction = direction; hardblank = hardblank }) height line_width line.now character_width character.now (length out.old) result out.new }
 {
     join::joining::join_to_line(
@@ -85,7 +86,7 @@ pub fn stack(
     hardblank: SubCharacter,
     layout: VerticalLayout,
     out: &mut [u8],
-) -> StackAnswer
+) -> Result<Stacked, Refusal>
     ensures { StackGives layout hardblank.0 upper_height upper_width upper.now lower_height lower_width lower.now (length out.old) result out.new }
 {
     stack::stacking::stack_blocks(
@@ -157,14 +158,14 @@ pub fn draw_wrapped(
 }
 
 // Tests a whole pack, and gives its height and how many records are live. Refusal 20.
-pub fn pack_check(pack: &[u8]) -> PackAnswer
+pub fn pack_check(pack: &[u8]) -> Result<Accepted, Refusal>
     ensures answer { result ≡ check_told (meaning pack.now) }
 {
     pack::check(pack)
 }
 
 // Where the rows of a code's letter start in a pack, and its width. Refusals: 20, 17 for code -1, 22.
-pub fn pack_find(pack: &[u8], code: Code) -> FindAnswer
+pub fn pack_find(pack: &[u8], code: Code) -> Result<Found, Refusal>
     ensures answer { result ≡ find_told (meaning pack.now) (bits_of code.0) }
 {
     pack::find(pack, code)
@@ -180,21 +181,21 @@ pub fn pack_rows<'a>(pack: &'a [u8], code: Code) -> &'a [u8]
 
 // Puts a letter into a pack: into the first free record of its width, else behind the last record. Refusals: 20, 17 for code -1, a width over 199, rows that
 // are not height times width bytes or hold a byte that a font's row may not, 21, 23; they leave the pack as it was lent.
-pub fn pack_put(pack: &mut [u8], code: Code, width: usize, rows: &[u8]) -> EditAnswer
+pub fn pack_put(pack: &mut [u8], code: Code, width: usize, rows: &[u8]) -> Result<(), Refusal>
     ensures change { Changes (insertion (meaning pack.old) (length pack.old) (bits_of code.0) width rows.now) pack.old result pack.new }
 {
     pack::put(pack, code, width, rows)
 }
 
 // Frees the record of a code's letter: one byte changes. Refusals: 20, 17 for code -1, 22; they leave the pack as it was lent.
-pub fn pack_remove(pack: &mut [u8], code: Code) -> EditAnswer
+pub fn pack_remove(pack: &mut [u8], code: Code) -> Result<(), Refusal>
     ensures change { Changes (removal (meaning pack.old) (bits_of code.0)) pack.old result pack.new }
 {
     pack::remove(pack, code)
 }
 
 // Drops the free records of a pack; the live ones follow one another in order, with zeros behind. Refusal 20, which leaves the pack as it was lent.
-pub fn pack_compact(pack: &mut [u8]) -> EditAnswer
+pub fn pack_compact(pack: &mut [u8]) -> Result<(), Refusal>
     ensures change { Changes (compaction (meaning pack.old)) pack.old result pack.new }
 {
     pack::compact(pack)
@@ -273,7 +274,7 @@ pub fn check_drawing(
     figure: &[u8],
     overlaps: &[usize],
     scratch: &mut [u8],
-) -> CheckAnswer
+) -> Result<Verdict, Refusal>
     ensures answer { result ≡ drawing_checked (length scratch.old) font.now control.now text.now overlaps.now figure.now }
     ensures scratch { scratch.new ≡ zeros (length scratch.old) }
 {

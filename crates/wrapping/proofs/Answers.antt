@@ -10,7 +10,7 @@ use lib.Dec.{ltb}
 use lib.ListN.{length, get_or}
 use borrow.Author.Tests.{lt-ltb, le-ltb, ltb-true, ltb-false, not-true, not-false}
 use Rattle.ground.specs.Limits.{max_line_width, max_text, min_lines, min_scratch}
-use Rattle.ground.specs.Refusals.{refusal, area_too_small, text_too_long, line_too_wide, bad_shape, character_too_wide}
+use Rattle.ground.specs.Refusals.{refusal, number_of, area_too_small, text_too_long, line_too_wide, bad_shape, character_too_wide}
 use Rattle.ground.specs.declared.refusals.Refusal.{Refusal}
 use Rattle.ground.proofs.Tests.{and_left, and_right, or_left, or_right, below_or_not}
 use Rattle.blocks.specs.Block.{Block}
@@ -203,14 +203,14 @@ module _ (firstRoom endRoom size : ℕ) (s control : List ℕ) (limit : ℕ) (te
       by_font u (font.says h es) f = by-control u h es f (flc.control control) refl
 
   -- "16 is not given by this call."
-  abbrev number_of : WrapAnswer → ℕ
-  number_of (Refused r) = r.number
-  number_of (Wrapped n counts) = 0
+  abbrev number_in : WrapAnswer → ℕ
+  number_in (Refused r) = number_of r.reason
+  number_in (Wrapped n counts) = 0
 
-  pub never_16 : number_of answer ≡ line_too_wide → ⊥
+  pub never_16 : number_in answer ≡ number_of line_too_wide → ⊥
   never_16 e = go answer one_of e
     where
-      go : (a : WrapAnswer) → WrapsTo a → number_of a ≡ line_too_wide → ⊥
+      go : (a : WrapAnswer) → WrapsTo a → number_in a ≡ number_of line_too_wide → ⊥
       go _ (areas_small l) e = omega arith
       go _ (font_refused u r f) e = omega (arith, (font_refusal s r f).1, e)
       go _ (control-refused u h es f r c) e = omega (arith, (control-refusal control r c).1, e)

@@ -147,7 +147,7 @@ module _ (s control : List ℕ) (limit : ℕ) (text : List ℕ) where
 
   -- what a refusal of a line is
   abbrev refusal_of : Lined → Refusal
-  refusal_of (lined y h l n) = refusal 0 0
+  refusal_of (lined y h l n) = refusal area_too_small 0
   refusal_of (unlined r) = r
 
   abbrev is-lined : Lined → ℕ

@@ -9,7 +9,8 @@ use native.Mathlib.Omega.{arith}
 use native.Mathlib.Decide.{dec_lt}
 use lib.ListN.{length, get_or}
 use Rattle.ground.specs.Limits.{max_line_width, max_text, min_lines, min_scratch}
-use Rattle.ground.specs.Refusals.{refusal, too_many_characters, area_too_small, control_file_too_long, too_many_commands, text_too_long, bad_shape, character_too_wide}
+use Rattle.ground.specs.Refusals.{refusal, number_of, too_many_characters, area_too_small, control_file_too_long, too_many_commands, text_too_long, bad_shape, character_too_wide}
+use Rattle.ground.specs.declared.refusals.Reason.{Reason}
 use Rattle.ground.specs.declared.refusals.Refusal.{Refusal}
 use Rattle.header.specs.declared.Header.{Header}
 use Rattle.chars.specs.declared.Entry.{Entry}
@@ -156,12 +157,12 @@ module _ (firstRoom endRoom size : ℕ) (s control : List ℕ) (limit : ℕ) (te
   -- What a refusal is given for, by its number, and what a success tells.
   abbrev RefusedFor : Refusal → Type 0
   RefusedFor r =
-      (r.number ≤ too_many_characters → FontFor r) ×
-      (control_file_too_long ≤ r.number → r.number ≤ too_many_commands → ControlFor r) ×
-      (r.number ≡ text_too_long → TooLong r.place) ×
-      (r.number ≡ bad_shape → OutOfRange r.place) ×
-      (r.number ≡ character_too_wide → TooWide r.place) ×
-      (r.number ≡ area_too_small → TooSmall r.place)
+      (number_of r.reason ≤ number_of too_many_characters → FontFor r) ×
+      (number_of control_file_too_long ≤ number_of r.reason → number_of r.reason ≤ number_of too_many_commands → ControlFor r) ×
+      (number_of r.reason ≡ number_of text_too_long → TooLong r.place) ×
+      (number_of r.reason ≡ number_of bad_shape → OutOfRange r.place) ×
+      (number_of r.reason ≡ number_of character_too_wide → TooWide r.place) ×
+      (number_of r.reason ≡ number_of area_too_small → TooSmall r.place)
 
   abbrev Told : WrapAnswer → Type 0
   Told (Refused r) = RefusedFor r
@@ -213,15 +214,15 @@ module _ (firstRoom endRoom size : ℕ) (s control : List ℕ) (limit : ℕ) (te
   tells : (a : WrapAnswer) → answer ≡ a → Told a
   tells a e = told a (subst (λ (x : WrapAnswer). Due x) e (answers.one_of firstRoom endRoom size s control limit text room))
 
-  refused-at : (number q p : ℕ) → p ≡ q → answer ≡ Refused (refusal number q) → answer ≡ Refused (refusal number p)
-  refused-at number q p e a = subst (λ (j : ℕ). answer ≡ Refused (refusal number j)) (sym e) a
+  refused-at : (reason : Reason) (q p : ℕ) → p ≡ q → answer ≡ Refused (refusal reason q) → answer ≡ Refused (refusal reason p)
+  refused-at reason q p e a = subst (λ (j : ℕ). answer ≡ Refused (refusal reason j)) (sym e) a
 
   -- "9 (firsts or ends under 1,024 entries, scratch under 32,000), font,
-  pub row_font : (r : Refusal) → r.number ≤ too_many_characters → answer ≡ Refused r ↔ FontFor r
+  pub row_font : (r : Refusal) → number_of r.reason ≤ number_of too_many_characters → answer ≡ Refused r ↔ FontFor r
   row_font r u = (λ e. (tells (Refused r) e).0 u, λ w. gives _ (font_refused (enough w.0) r w.1))
 
   -- control,
-  pub row-control : (r : Refusal) → control_file_too_long ≤ r.number → r.number ≤ too_many_commands → answer ≡ Refused r ↔ ControlFor r
+  pub row-control : (r : Refusal) → number_of control_file_too_long ≤ number_of r.reason → number_of r.reason ≤ number_of too_many_commands → answer ≡ Refused r ↔ ControlFor r
   row-control r u v = (λ e. (tells (Refused r) e).1 u v, λ w. gives _ (control-refused (enough w.0) w.1 w.2 w.3 r w.4))
 
   -- 15, ..

@@ -9,6 +9,7 @@ use native.Mathlib.Decide.{dec_lt}
 use lib.ListN.{length, drop, get_or, take-append-drop}
 use lib.Seq.{drop-drop}
 use borrow.Author.Tests.{not-true}
+use Rattle.ground.proofs.Tests.{never_both}
 use Rattle.subchars.specs.declared.Mode.{Mode}
 use Rattle.blocks.specs.Block.{Block}
 use Rattle.showing.specs.Output.{shown}
@@ -18,7 +19,7 @@ use Rattle.breaks.specs.Words.{is_break, in_word, word_from, word_behind, ends_w
 use Rattle.breaks.specs.Breaking.{Span, span, span_end, spans_from, spans_of}
 use Rattle.spans.specs.Spans.{part, line_by, wide_in, drawings, first_wider}
 use Rattle.breaks.specs.Steps.{NoneWider, Grows, last_behind}
-use Rattle.breaks.proofs.WordLaws.{run_here, start_in_word, behind_le, behind-ends, behind-all, word_before, word_none}
+use Rattle.breaks.proofs.WordLaws.{run-place, start_in_word, behind_le, behind-ends, behind-all, word_before, word_none}
 use Rattle.breaks.proofs.BreakingLaws.{Each, each_so, each_at, InOrder, Apart, Line, line-is, whole_words, word_broken, from_some, from_none, lines_each, lines_in_order, lines_at_most, lines_apart, no_words}
 use Rattle.spans.proofs.DrawnLaws.{part_grows, none-wider}
 use Rattle.spans.proofs.PuttingLaws.{drawings-append, drawings-one}
@@ -122,10 +123,18 @@ module _ (y : Mode) (h : ℕ) (source : Source) (cs : List Command) (k limit : �
       pieces_from text lines 0 in_order
       (each_so (λ (x : Span). TextLine x.first x.behind) (λ (x : Span). x.first < x.behind) (λ x l. l.longer) lines each_line)
 
+  -- Where a byte of a word stands, the next word starts there.
+  here : (p : ℕ) → in_word (get_or text p 0) ≡ true → word_from text p ≡ p
+  here p v =
+      elim (dec_lt p (word_from text p)) [
+        | yes l ↦ absurd (never_both (is_break (get_or text p 0)) (run-place text is_break p p (omega arith) l) (not-true _ v))
+        | no g ↦ omega arith
+      ]
+
   -- "Its rest is the next line's first word": behind a line that breaks a word the next line starts at once.
   pub rest_next : (p : ℕ) → p < length text → in_word (get_or text p 0) ≡ true → spans_from wide limit text p ≡ span p (span_end wide limit text p) ∷ spans_from wide limit text (span_end wide limit text p)
   rest_next p u v =
-      let z : word_from text p ≡ p = sym (run_here text is_break p u (not-true _ v)) in
+      let z : word_from text p ≡ p = here p v in
       from_some wide limit text none p (omega (arith, z)) ∙ ap (λ (j : ℕ). span j (span_end wide limit text j) ∷ spans_from wide limit text (span_end wide limit text j)) z
 
   -- "A text without words has no lines."

@@ -16,8 +16,8 @@ ghost use Rattle.breaks.specs.Steps.{NoneWider};
 ghost use Rattle.spans.specs.Steps.{DrawsBy, PutAs};
 
 use bothfiles::Files;
-use ground::refusals::Refusal;
-use ground::{limits, refusals};
+use ground::limits;
+use ground::refusals::{Reason, Refusal};
 use header::Header;
 use index::latest;
 use source::{Counts, Origin};
@@ -35,15 +35,14 @@ fn refuse(
     line_firsts: &mut [usize],
     line_ends: &mut [usize],
     out: &mut [u8],
-    number: usize,
-    place: usize,
+    refusal: Refusal,
 ) -> WrapAnswer
-    ensures { WrapOut (Wrap.unwrapped (record { number = number; place = place })) (length line_firsts.old) (length line_ends.old) (length out.old) result line_firsts.new line_ends.new out.new }
+    ensures { WrapOut (Wrap.unwrapped refusal) (length line_firsts.old) (length line_ends.old) (length out.old) result line_firsts.new line_ends.new out.new }
 {
-    ground::zero_numbers(line_firsts, 0);
-    ground::zero_numbers(line_ends, 0);
+    ground::fill_from(line_firsts, 0, 0);
+    ground::fill_from(line_ends, 0, 0);
     ground::zero_from(out, 0);
-    WrapAnswer::Refused(Refusal { number, place })
+    WrapAnswer::Refused(refusal)
 }
 
 // What the lines that were put come to, with zeros behind them; 9 where the output has no room for them.
@@ -59,12 +58,17 @@ fn finish_lines(
 {
     match put {
         LinesPut::Put { lines, bytes } => {
-            ground::zero_numbers(line_firsts, lines);
-            ground::zero_numbers(line_ends, lines);
+            ground::fill_from(line_firsts, lines, 0);
+            ground::fill_from(line_ends, lines, 0);
             ground::zero_from(out, bytes);
             WrapAnswer::Wrapped { lines, counts }
         }
-        LinesPut::NoRoom => refuse(line_firsts, line_ends, out, refusals::AREA_TOO_SMALL, 0),
+        LinesPut::NoRoom => refuse(
+            line_firsts,
+            line_ends,
+            out,
+            Refusal::of(Reason::AreaTooSmall),
+        ),
     }
 }
 
@@ -156,8 +160,11 @@ fn wrap_text(
     );
     let place = measured.place;
     if place < text.len() {
-        let number = refusals::CHARACTER_TOO_WIDE;
-        return refuse(line_firsts, line_ends, out, number, place);
+        let refusal = Refusal {
+            reason: Reason::CharacterTooWide,
+            place,
+        };
+        return refuse(line_firsts, line_ends, out, refusal);
     }
     wrap_lines(
         line_firsts,
@@ -184,10 +191,7 @@ fn wrap_text(
 fn bad_limit(limit: usize) -> bool
     ensures { result ≡ bad_limit limit }
 {
-    if limit < 1 {
-        return true;
-    }
-    limits::MAX_LINE_WIDTH < limit
+    limit < 1 || limits::MAX_LINE_WIDTH < limit
 }
 
 // Draws a text in lines by a font and a control file that were read: 15, 17, 19, then 9 for the output.
@@ -218,10 +222,15 @@ fn wrap_read(
     ensures { (control : List ℕ) → ControlHeld control commands stages.now firsts.now lasts.now news.now → WrapOut (wrap_of font.now control limit text.now) (length line_firsts.old) (length line_ends.old) (length out.old) result line_firsts.new line_ends.new out.new }
 {
     if limits::MAX_TEXT < text.len() {
-        return refuse(line_firsts, line_ends, out, refusals::TEXT_TOO_LONG, 0);
+        return refuse(
+            line_firsts,
+            line_ends,
+            out,
+            Refusal::of(Reason::TextTooLong),
+        );
     }
     if bad_limit(limit) {
-        return refuse(line_firsts, line_ends, out, refusals::BAD_SHAPE, 0);
+        return refuse(line_firsts, line_ends, out, Refusal::of(Reason::BadShape));
     }
     let mode = drawing::mode_of(header);
     let height = header.height;
@@ -300,7 +309,7 @@ fn wrap_files(
             lasts,
             news,
         ),
-        Files::Refused(r) => refuse(line_firsts, line_ends, out, r.number, r.place),
+        Files::Refused(r) => refuse(line_firsts, line_ends, out, r),
     }
 }
 
@@ -373,13 +382,28 @@ fn wrap_tested(
     ensures { WrapOut (draw_wrapped (length line_firsts.old) (length line_ends.old) (length scratch.old) font.now control.now limit text.now) (length line_firsts.old) (length line_ends.old) (length out.old) result line_firsts.new line_ends.new out.new }
 {
     if line_firsts.len() < limits::MIN_LINES {
-        return refuse(line_firsts, line_ends, out, refusals::AREA_TOO_SMALL, 0);
+        return refuse(
+            line_firsts,
+            line_ends,
+            out,
+            Refusal::of(Reason::AreaTooSmall),
+        );
     }
     if line_ends.len() < limits::MIN_LINES {
-        return refuse(line_firsts, line_ends, out, refusals::AREA_TOO_SMALL, 0);
+        return refuse(
+            line_firsts,
+            line_ends,
+            out,
+            Refusal::of(Reason::AreaTooSmall),
+        );
     }
     if scratch.len() < limits::MIN_SCRATCH {
-        return refuse(line_firsts, line_ends, out, refusals::AREA_TOO_SMALL, 0);
+        return refuse(
+            line_firsts,
+            line_ends,
+            out,
+            Refusal::of(Reason::AreaTooSmall),
+        );
     }
     wrap_once(
         line_firsts,

@@ -1,32 +1,24 @@
-use mathlib.Core.Path.{◌≡◌, sym, ap, ◌∙◌}
+use mathlib.Core.Path.{◌≡◌, ap, subst}
 use Prim.Native.Nat.{ℕ, ◌+◌, ◌-◌}
 use native.Mathlib.Omega.{arith}
-use lib.ListN.{take, drop, get_or, length-drop}
-use lib.Seq.{get_or-drop}
-use Rattle.areas.specs.Numbers.{number_of}
-use Rattle.areas.proofs.NumberLaws.{upto_none, upto_more, upto_small}
+use lib.ListN.{length, take, drop, length-drop}
+use lib.Seq.{length-take-le}
+use borrow.Author.Rules.{rules}
+use Rattle.areas.proofs.NumberLaws.{Upto, upto_none, upto_more, upto_all}
 use Rattle.areas.proofs.number_at.Goals as goal
 
-pub loop-k-init : goal.loop-k-init
-loop-k-init c = (omega arith, upto_none (drop c.args.at c.args.s.now))
+pub loop-b-init : goal.loop-b-init
+loop-b-init c = upto_none _
 
-pub overflow_mul-r : goal.overflow_mul-r
-overflow_mul-r c = omega (arith, upto_small _ _ _ (omega arith) c.loop-k.invariant.1)
-
-pub overflow_add-r-in-loop-k : goal.overflow_add-r-in-loop-k
-overflow_add-r-in-loop-k c = omega (arith, c.shared_slice_known-1.given (c.args.at + c.loop-k.k), upto_small _ _ _ (omega arith) c.loop-k.invariant.1)
-
-pub loop-k-preserved : goal.loop-k-preserved
-loop-k-preserved c =
-    let l = c.loop-k in
-    let a = c.args in
-    let p = c.requires in
-    let b = c.shared_slice_known-1.given (a.at + l.k) in
-    (omega arith, upto_more (drop a.at a.s.now) l.k l.r (get_or a.s.now (a.at + l.k) 0) (omega (arith, length-drop a.at a.s.now)) (sym (get_or-drop a.at a.s.now l.k 0)) (omega arith) l.invariant.1)
+pub loop-b-preserved : goal.loop-b-preserved
+loop-b-preserved c = upto_more _ c.loop-b.b-index c.loop-b.r c.from.result c.loop-b-test.true c.from.ensures (search rules) c.loop-b.invariant
 
 pub returns : goal.returns
 returns c =
-    let l = c.loop-k in
     let a = c.args in
-    let e : l.k ≡ a.n = omega arith in
-    record { is = l.invariant.1.is ∙ ap (λ (j : ℕ). number_of (take j (drop a.at a.s.now))) e; small = upto_small _ _ _ (omega arith) l.invariant.1 }
+    let l = c.loop-b in
+    let rest = drop a.at a.s.now in
+    let e : a.at + a.n - a.at ≡ a.n = omega arith in
+    let u = subst (λ (j : ℕ). Upto (take j rest) l.b-index l.r) e l.invariant in
+    let k = length-take-le a.n rest (omega (arith, length-drop a.at a.s.now)) in
+    upto_all (take a.n rest) l.b-index l.r (omega (arith, ap (λ (j : ℕ). length (take j rest)) e)) (omega (arith, ap (λ (j : ℕ). length (take j rest)) e)) u

@@ -1,12 +1,6 @@
 -- `areas::write_number` meets its contract. The invariant: the bytes behind the first k are laid.
-use mathlib.Core.Path.{◌≡◌}
-use Prim.Native.Nat.{◌-◌}
-use lib.ListN.{length}
 use Rattle.areas.proofs.NumberLaws.{Written}
 use Rattle.areas.proofs.write_number.Given as goal
 
 abbrev pub invariant-loop-k : goal.invariant-loop-k
-invariant-loop-k l = (length l.area ≡ length l.initial.area) × Written l.at l.n l.x l.initial.area l.k l.rest l.area
-
-abbrev pub decreases-loop-k : goal.decreases-loop-k
-decreases-loop-k l = l.k
+invariant-loop-k l = Written l.at l.n l.x l.initial.area l.k l.rest l.area

@@ -4,6 +4,3 @@ use Rattle.breaks.proofs.last_behind.Given as goal
 
 abbrev pub invariant-loop-e : goal.invariant-loop-e
 invariant-loop-e l = LastUpTo l.text l.e
-
-abbrev pub decreases-loop-e : goal.decreases-loop-e
-decreases-loop-e l = l.e

@@ -1,16 +1,19 @@
-use mathlib.Core.Path.{sym, ◌∙◌}
-use Prim.Native.Nat.{◌-◌}
+-- `breaks::word_from` meets its contract.
+use mathlib.Core.Path.{ap}
+use Prim.Native.Nat.{ℕ, ◌+◌, ◌≤◌}
 use native.Mathlib.Omega.{arith}
-use borrow.Author.Tests.{eq-eqb, ne_eqb}
+use borrow.Author.Rules.{rules}
+use lib.ListN.{length}
 use Rattle.breaks.specs.Words.{is_break}
-use Rattle.breaks.proofs.WordLaws.{run_next, run_here, run_over}
+use Rattle.breaks.proofs.WordLaws.{run-within, blanks_from}
 use Rattle.breaks.proofs.word_from.Goals as goal
 
-pub returns-then-text-b-ne32 : goal.returns-then-text-b-ne32
-returns-then-text-b-ne32 c = run_here _ is_break _ c.loop-b-test.true (ne_eqb _ _ c.if-text-b-ne32.true) ∙ c.loop-b.invariant.1
-
-pub loop-b-preserved : goal.loop-b-preserved
-loop-b-preserved c = (omega arith, sym (run_next _ is_break _ c.loop-b-test.true (eq-eqb _ _ c.if-text-b-ne32.false)) ∙ c.loop-b.invariant.1)
+pub overflow_add-result : goal.overflow_add-result
+overflow_add-result c =
+    let n = blanks_from c.args.text.now c.args.p c.leading_blanks.result c.leading_blanks.ensures in
+    let l = run-within c.args.text.now is_break c.args.p c.requires in
+    let m : c.args.p + c.leading_blanks.result ≤ length c.args.text.now = omega (arith, n, l) in
+    search (rules, m)
 
 pub returns : goal.returns
-returns c = run_over _ is_break _ c.loop-b-test.false ∙ c.loop-b.invariant.1
+returns c = ap (λ (n : ℕ). c.args.p + n) (blanks_from c.args.text.now c.args.p c.leading_blanks.result c.leading_blanks.ensures)

@@ -1,20 +1,17 @@
-use mathlib.Core.Path.{sym, ◌∙◌}
-use native.Mathlib.Omega.{arith}
-use Rattle.chars.proofs.BlankLaws.{blank-more, blank-end, blank_not, blank-all}
+-- `chars::rest_is_blank` meets its contract: the library's `all` is the one of the definitions.
+use mathlib.Core.Path.{◌∙◌}
+use lib.ListN.{drop}
+use borrow.Author.Tests.{tests}
+use Rattle.std.proofs.Common.{rules}
+use Rattle.std.proofs.lemmas.Iterator.{YieldsList-from_slice}
+use Rattle.std.proofs.lemmas.Iterator.Adapters.{YieldsList-from_skip}
+use Rattle.std.proofs.lemmas.Iterator.Search.{all_from_yields_List}
+use Rattle.rows.proofs.AllLaws.{all_is}
+use Rattle.chars.specs.Steps.{is_space, blank_from}
 use Rattle.chars.proofs.rest_is_blank.Goals as goal
 
-pub loop-i-preserved-then-is_blank : goal.loop-i-preserved-then-is_blank
-loop-i-preserved-then-is_blank c =
-    c.loop-i.invariant ∙ blank-more _ c.loop-i.i (omega arith) (sym c.is_blank.ensures ∙ c.if-is_blank.true)
-
-pub loop-i-preserved : goal.loop-i-preserved
-loop-i-preserved c =
-    c.loop-i.invariant ∙ blank-end _ c.loop-i.i (omega arith) (sym c.is_blank.ensures ∙ c.if-is_blank.false) (sym c.is_end.ensures ∙ c.if-is_end.true)
-
-pub returns-else-is_end : goal.returns-else-is_end
-returns-else-is_end c =
-    sym (c.loop-i.invariant ∙ blank_not _ c.loop-i.i (omega arith) (sym c.is_blank.ensures ∙ c.if-is_blank.false) (sym c.is_end.ensures ∙ c.if-is_end.false))
-
 pub returns : goal.returns
+unfolding blank_from
 returns c =
-    sym (c.loop-i.invariant ∙ blank-all _ c.loop-i.i (omega arith))
+    all_from_yields_List is_space _ _ c.all.result c.all.ensures.ran (YieldsList-from_skip c.args.at (YieldsList-from_slice c.args.s.now (cc)) cc) (λ x b q k. search (rules, tests)) ∙
+    all_is is_space (drop c.args.at c.args.s.now)

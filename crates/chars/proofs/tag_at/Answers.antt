@@ -1,34 +1,26 @@
 -- `chars::tag_at` meets its contract: the tag of the line that the cursor finds.
-use mathlib.Core.Path.{sym, ap, ◌∙◌}
 use Rattle.lines.proofs.LineLaws.{LineFound, line-found, line_missed, line_order, line-within}
-use Rattle.chars.specs.declared.TagStep.{TagStep}
-use Rattle.chars.specs.declared.TagAt.{TagAt}
-use Rattle.chars.specs.Steps.{tag_then}
 use Rattle.chars.proofs.ListingLaws.{tag_line, tag_missed}
-use Rattle.chars.proofs.tag_at.Goals.{In-Line}
+use Rattle.chars.proofs.tag_at.Goals.{In_ok-line}
 use Rattle.chars.proofs.tag_at.Goals as goal
 
-found : (c : In-Line) → LineFound c.args.s.now c.args.cursor.at c.in-Line.start c.in-Line.end c.in-Line.next
-found c = line-found c.args.s.now c.args.cursor.at _ _ _ (sym c.in-Line.is ∙ c.next.ensures)
+found : (c : In_ok-line) → LineFound c.args.s.now c.args.cursor.at c.in_ok-line.line
+found c = line-found _ _ _ c.in_ok-line.ensures
+
+pub returns-in_err-line : goal.returns-in_err-line
+returns-in_err-line c = rw c.from_residual.ensures (tag_missed _ _ (line_missed _ _ c.in_err-line.ensures))
 
 pub slice_bounds-tag_of-count : goal.slice_bounds-tag_of-count
-slice_bounds-tag_of-count c = line_order _ _ _ _ _ (found (goal.at.slice_bounds-tag_of-count c).In-Line)
+slice_bounds-tag_of-count c = line_order _ _ _ (found (goal.at.slice_bounds-tag_of-count c).In_ok-line)
 
 pub slice_bounds-tag_of-start : goal.slice_bounds-tag_of-start
-slice_bounds-tag_of-start c = line_order _ _ _ _ _ (found (goal.at.slice_bounds-tag_of-start c).In-Line)
+slice_bounds-tag_of-start c = line_order _ _ _ (found (goal.at.slice_bounds-tag_of-start c).In_ok-line)
 
 pub slice_bounds-tag_of-end : goal.slice_bounds-tag_of-end
-slice_bounds-tag_of-end c = line-within _ _ _ _ _ (found (goal.at.slice_bounds-tag_of-end c).In-Line)
+slice_bounds-tag_of-end c = line-within _ _ _ (found (goal.at.slice_bounds-tag_of-end c).In_ok-line)
 
-pub returns-in-Tag : goal.returns-in-Tag
-returns-in-Tag c =
-    let there : TagStep → TagAt = λ t. tag_then t c.in-Line.next in
-    sym (ap there c.in-Tag.is) ∙ tag_line _ _ _ _ _ (found (goal.at.returns-in-Tag c).In-Line) c.tag_of.result c.tag_of.ensures
+pub returns-in_err-code : goal.returns-in_err-code
+returns-in_err-code c = rw c.from_residual-in_err-code.ensures (tag_line _ _ c.in_ok-line.line (found (goal.at.returns-in_err-code c).In_ok-line) _ c.in_err-code.ensures)
 
-pub returns-in-BadTag : goal.returns-in-BadTag
-returns-in-BadTag c =
-    let there : TagStep → TagAt = λ t. tag_then t c.in-Line.next in
-    sym (ap there c.in-BadTag.is) ∙ tag_line _ _ _ _ _ (found (goal.at.returns-in-BadTag c).In-Line) c.tag_of.result c.tag_of.ensures
-
-pub returns-in-NoLine : goal.returns-in-NoLine
-returns-in-NoLine c = tag_missed _ _ (line_missed _ _ (sym c.in-NoLine.is ∙ c.next.ensures))
+pub returns : goal.returns
+returns c = tag_line _ _ c.in_ok-line.line (found (goal.at.returns c).In_ok-line) _ c.in_ok-code.ensures

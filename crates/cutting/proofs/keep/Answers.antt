@@ -1,27 +1,27 @@
-use mathlib.Core.Path.{◌≡◌, ◌∙◌, sym, ap}
-use Prim.Native.Nat.{◌-◌}
+-- `cutting::keep` meets its contract: what is copied stands behind the bytes that are kept, as far as there is room.
+use mathlib.Core.Path.{◌≡◌, ◌∙◌, ap}
+use mathlib.Core.List.{List, ◌++◌}
+use Prim.Native.Nat.{ℕ, ◌+◌, ◌-◌}
 use native.Mathlib.Omega.{arith}
-use lib.ListN.{take, drop, get_or, length-set}
-use Rattle.cutting.specs.Parts.{most_kept, clipped}
-use Rattle.cutting.proofs.StepLaws.{keep_more, keep_full, keep_done}
+use lib.ListN.{length, take}
+use lib.Seq.{length-take-le}
+use borrow.Rule.Slice.PartMut.{post_of}
+use Rattle.cutting.proofs.StepLaws.{copied-behind, clipped-behind}
 use Rattle.cutting.proofs.keep.Goals as goal
-
-pub returns-then-n-eq-MOST_KEPT : goal.returns-then-n-eq-MOST_KEPT
-returns-then-n-eq-MOST_KEPT c =
-    let a = c.args in
-    let e : c.loop-i.n ≡ most_kept = omega arith in
-    (omega arith, rw e (sym (keep_full c.loop-i.line (take (a.end - c.loop-i.i) (drop c.loop-i.i a.part.now)) (omega arith)) ∙ (rw e at c.loop-i.invariant.3)))
-
-pub loop-i-preserved : goal.loop-i-preserved
-loop-i-preserved c =
-    let a = c.args in (
-      omega arith,
-      omega arith,
-      length-set c.loop-i.line c.loop-i.n (get_or a.part.now c.loop-i.i 0) ∙ c.loop-i.invariant.2,
-      ap clipped (keep_more c.loop-i.line a.part.now c.loop-i.n c.loop-i.i a.end (omega arith) (omega arith) (omega arith)) ∙ c.loop-i.invariant.3,
-    )
 
 pub returns : goal.returns
 returns c =
     let a = c.args in
-    (omega arith, sym (keep_done c.loop-i.line a.part.now c.loop-i.n c.loop-i.i a.end (omega arith) (omega arith) (omega arith)) ∙ c.loop-i.invariant.3)
+    let l = a.line.now in
+    let p = take a.held l in
+    let s = a.part.now in
+    let n = c.min-n.result in
+    let m = c.min-n.ensures in
+    let w = c.copy_from_slice.new.self in
+    let few : length p ≡ a.held = length-take-le a.held l (omega arith) in
+    let many : length w ≡ n = ap length c.copy_from_slice.ensures.after ∙ length-take-le n s (omega arith) in (
+      omega arith,
+      copied-behind p w (post_of a.held (a.held + n - a.held) l) a.held n few many
+          ∙ ap (λ (t : List ℕ). p ++ t) (c.copy_from_slice.ensures.after ∙ ap (λ (k : ℕ). take k s) m)
+          ∙ clipped-behind p s a.held a.end few (omega arith),
+    )

@@ -4,8 +4,8 @@ use lib.ListN.{length}
 use Rattle.edits.proofs.SqueezeLaws.{Squeezed}
 use Rattle.edits.proofs.squeeze.Given as goal
 
-abbrev pub invariant-loop-live : goal.invariant-loop-live
-invariant-loop-live l = Squeezed l.head l.initial.area l.from l.area l.at l.to
+abbrev pub invariant-loop-found : goal.invariant-loop-found
+invariant-loop-found l = Squeezed l.head l.initial.area l.from l.area l.at l.to
 
-abbrev pub decreases-loop-live : goal.decreases-loop-live
-decreases-loop-live l = length l.area - l.at
+abbrev pub decreases-loop-found : goal.decreases-loop-found
+decreases-loop-found l = length l.area - l.at

@@ -25,12 +25,12 @@ loop-i-preserved c =
     let zs = filled font n in
     let small : i < n = omega arith in
     let in_zs : i < length zs = omega (arith, index_room font n) in
-    let entry : get_or c.list_font-listed.result.entries c.smaller.result zero_entry ≡ get_or zs i zero_entry =
-    ap (λ (l : Listed). get_or l.entries c.smaller.result zero_entry) c.list_font-listed.ensures ∙
-    ap (λ k. get_or (index_of (font_reading n font) array_length) k zero_entry) c.smaller.ensures ∙ index_at font n i in
+    let entry : get_or c.list_font-listed.result.entries c.min.result zero_entry ≡ get_or zs i zero_entry =
+    ap (λ (l : Listed). get_or l.entries c.min.result zero_entry) c.list_font-listed.ensures ∙
+    ap (λ k. get_or (index_of (font_reading n font) array_length) k zero_entry) c.min.ensures ∙ index_at font n i in
     record {
       within = omega arith;
-      moved_so_far = ap (λ (xs : List Entry). set xs i (get_or c.list_font-listed.result.entries c.smaller.result zero_entry)) c.loop-i.invariant.moved_so_far ∙
+      moved_so_far = ap (λ (xs : List Entry). set xs i (get_or c.list_font-listed.result.entries c.min.result zero_entry)) c.loop-i.invariant.moved_so_far ∙
           ap (set (moved zs ys i) i) entry ∙ moved_next zero_entry zs ys i in_zs small ∙ ap (moved zs ys) (sym (add-one i));
     }
 

@@ -4,8 +4,8 @@ use Prim.Native.Nat.{◌-◌}
 use lib.ListN.{length}
 use Rattle.evidence_stacks.proofs.requests.Given as goal
 
-abbrev pub invariant-loop-start : goal.invariant-loop-start
-invariant-loop-start g l = length l.pack ≡ length l.initial.pack
+abbrev pub invariant-loop-line : goal.invariant-loop-line
+invariant-loop-line g l = length l.pack ≡ length l.initial.pack
 
-abbrev pub decreases-loop-start : goal.decreases-loop-start
-decreases-loop-start g l = length l.t - l.cursor.at
+abbrev pub decreases-loop-line : goal.decreases-loop-line
+decreases-loop-line g l = length l.t - l.cursor.at

@@ -6,7 +6,7 @@ use Rattle.fontdrawing.proofs.draw_tested.Goals as goal
 pub returns-then-scratch-lt-MIN_SCRATCH : goal.returns-then-scratch-lt-MIN_SCRATCH
 returns-then-scratch-lt-MIN_SCRATCH c =
     let a = c.args in
-    put_as (length a.scratch.now) a.font.now a.control.now a.text.now _ _ _ _ (lined-small _ _ _ _ c.if-scratch-lt-MIN_SCRATCH.true) c.refuse.ensures
+    put_as (length a.scratch.now) a.font.now a.control.now a.text.now _ _ _ _ (rw c.of.ensures (lined-small _ _ _ _ c.if-scratch-lt-MIN_SCRATCH.true)) c.refuse.ensures
 
 pub returns : goal.returns
 returns c =

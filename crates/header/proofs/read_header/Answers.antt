@@ -1,34 +1,43 @@
 -- `header::read_header` meets its contract: one law for each way to return.
-use mathlib.Core.Path.{◌≡◌, sym, ◌∙◌}
-use mathlib.Core.Bool.{Bool}
+use mathlib.Core.Path.{refl, sym, ap, ◌∙◌}
+use Rattle.std.specs.Prelude.{Err}
+use Rattle.lines.proofs.WordLaws.{begins_is}
+use Rattle.header.specs.Header.{font_signature}
 use Rattle.header.proofs.LineLaws.{no_signature_lem, no_hardblank, not_hardblank, no_blank, not_blank_lem, numbered}
+use Rattle.header.proofs.read_header.Goals.{then-t-le-HARDBLANK-via-then-t-le-HARDBLANK, then-t-le-HARDBLANK-via-else-t-le-HARDBLANK+then-not-legal_hardblank, then-t-le-BLANK-via-then-t-le-BLANK, then-t-le-BLANK-via-else-t-le-BLANK+then-not-is_blank}
 use Rattle.header.proofs.read_header.Goals as goal
 
--- what a test that was called and found true or false says
-found : {r b v : Bool} → r ≡ b → r ≡ v → b ≡ v
-found e t = sym e ∙ t
-
 pub returns-then-not-starts_with : goal.returns-then-not-starts_with
-returns-then-not-starts_with c = c.refusal.ensures ∙ no_signature_lem _ (found c.starts_with.ensures c.if-not-starts_with.true)
+returns-then-not-starts_with c =
+    let t = c.args.t.now in
+    ap Err c.of.ensures ∙ no_signature_lem t (sym (begins_is font_signature t) ∙ sym c.starts_with.ensures.value ∙ c.if-not-starts_with.true)
 
 pub returns-then-t-le-HARDBLANK : goal.returns-then-t-le-HARDBLANK
-returns-then-t-le-HARDBLANK c = c.refusal-then-t-le-HARDBLANK.ensures ∙ no_hardblank _ (found c.starts_with.ensures c.if-not-starts_with.false) c.if-t-le-HARDBLANK.true
-
-pub returns-then-not-legal_hardblank : goal.returns-then-not-legal_hardblank
-returns-then-not-legal_hardblank c = c.refusal-then-not-legal_hardblank.ensures ∙ not_hardblank _ (found c.starts_with.ensures c.if-not-starts_with.false) c.if-t-le-HARDBLANK.false (found c.legal_hardblank.ensures c.if-not-legal_hardblank.true)
+returns-then-t-le-HARDBLANK c =
+    let t = c.args.t.now in
+    let s = sym (begins_is font_signature t) ∙ sym c.starts_with.ensures.value ∙ c.if-not-starts_with.false in
+    ap Err c.of-then-t-le-HARDBLANK.ensures ∙
+    elim c.then-t-le-HARDBLANK.branch [
+      | then-t-le-HARDBLANK-via-then-t-le-HARDBLANK w ↦ no_hardblank t s w.if-t-le-HARDBLANK.true
+      | then-t-le-HARDBLANK-via-else-t-le-HARDBLANK+then-not-legal_hardblank w ↦
+          not_hardblank t s w.if-t-le-HARDBLANK.false (sym w.legal_hardblank.ensures ∙ w.if-not-legal_hardblank.true)
+    ]
 
 pub returns-then-t-le-BLANK : goal.returns-then-t-le-BLANK
 returns-then-t-le-BLANK c =
-    c.refusal-then-t-le-BLANK.ensures ∙
-    no_blank _ (found c.starts_with.ensures c.if-not-starts_with.false) c.if-t-le-HARDBLANK.false (found c.legal_hardblank.ensures c.if-not-legal_hardblank.false) c.if-t-le-BLANK.true
-
-pub returns-then-not-is_blank : goal.returns-then-not-is_blank
-returns-then-not-is_blank c =
-    c.refusal-then-not-is_blank.ensures ∙
-    not_blank_lem _ (found c.starts_with.ensures c.if-not-starts_with.false) c.if-t-le-HARDBLANK.false (found c.legal_hardblank.ensures c.if-not-legal_hardblank.false) c.if-t-le-BLANK.false
-    (found c.is_blank.ensures c.if-not-is_blank.true)
+    let t = c.args.t.now in
+    let s = sym (begins_is font_signature t) ∙ sym c.starts_with.ensures.value ∙ c.if-not-starts_with.false in
+    let h = sym c.legal_hardblank.ensures ∙ c.if-not-legal_hardblank.false in
+    ap Err c.of-then-t-le-BLANK.ensures ∙
+    elim c.then-t-le-BLANK.branch [
+      | then-t-le-BLANK-via-then-t-le-BLANK w ↦ no_blank t s c.if-t-le-HARDBLANK.false h w.if-t-le-BLANK.true
+      | then-t-le-BLANK-via-else-t-le-BLANK+then-not-is_blank w ↦
+          not_blank_lem t s c.if-t-le-HARDBLANK.false h w.if-t-le-BLANK.false (sym w.is_blank.ensures ∙ w.if-not-is_blank.true)
+    ]
 
 pub returns : goal.returns
 returns c =
-    numbered _ (found c.starts_with.ensures c.if-not-starts_with.false) c.if-t-le-HARDBLANK.false (found c.legal_hardblank.ensures c.if-not-legal_hardblank.false) _ _ c.if-t-le-BLANK.false
-    (found c.is_blank.ensures c.if-not-is_blank.false) c.find_numbers.ensures c.header_of.ensures
+    let t = c.args.t.now in
+    let s = sym (begins_is font_signature t) ∙ sym c.starts_with.ensures.value ∙ c.if-not-starts_with.false in
+    numbered t s c.if-t-le-HARDBLANK.false (sym c.legal_hardblank.ensures ∙ c.if-not-legal_hardblank.false) _ _ c.if-t-le-BLANK.false
+    (sym c.is_blank.ensures ∙ c.if-not-is_blank.false) refl c.header_of.ensures

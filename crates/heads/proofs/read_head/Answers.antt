@@ -5,7 +5,7 @@ use native.Mathlib.Omega.{arith}
 use lib.ListN.{length}
 use Rattle.records.specs.declared.Head.{Head}
 use Rattle.records.specs.Versions.{head_length}
-use Rattle.heads.specs.declared.HeadStep.TheVariants.{Good}
+use Rattle.std.specs.Prelude.{Some}
 use Rattle.heads.specs.Pack.{legal_head}
 use Rattle.heads.proofs.HeadLaws.{head-long, head_short, head_mark, head-head, head-cut, head_good}
 use Rattle.heads.proofs.read_head.Goals as goal
@@ -20,7 +20,7 @@ pub returns-then-head_length-s : goal.returns-then-head_length-s
 returns-then-head_length-s c =
     let s = c.args.s.now in
     let h : head_length c.head_of-head.result.version ≤ length s = omega (arith, c.head_length.ensures, c.if-head_length-s.true) in
-    ap Good c.head_of-head.ensures ∙ head_good s (omega (arith, c.if-s-gt-MAX_PACK_LENGTH.false)) (omega (arith, c.if-s-lt-MIN_PACK_LENGTH.false)) (sym c.has_mark.ensures ∙ c.if-has_mark.true) (sym (ap legal_head c.head_of-head.ensures) ∙ (sym c.is_legal_head.ensures ∙ c.if-is_legal_head.true)) (subst (λ (f : Head). head_length f.version ≤ length s) c.head_of-head.ensures h)
+    ap Some c.head_of-head.ensures ∙ head_good s (omega (arith, c.if-s-gt-MAX_PACK_LENGTH.false)) (omega (arith, c.if-s-lt-MIN_PACK_LENGTH.false)) (sym c.has_mark.ensures ∙ c.if-has_mark.true) (sym (ap legal_head c.head_of-head.ensures) ∙ (sym c.is_legal_head.ensures ∙ c.if-is_legal_head.true)) (subst (λ (f : Head). head_length f.version ≤ length s) c.head_of-head.ensures h)
 
 pub returns-else-head_length-s : goal.returns-else-head_length-s
 returns-else-head_length-s c =

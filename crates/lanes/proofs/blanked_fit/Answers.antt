@@ -20,7 +20,7 @@ bound q =
 pub loop-r-init : goal.loop-r-init
 loop-r-init c =
     let s = (goal.at.loop-r-init c).Start in
-    (search rules, fitted_none c.args.a.len c.args.b.len (block_of s) (other_of s) _ c.smaller-best.ensures)
+    (search rules, fitted_none c.args.a.len c.args.b.len (block_of s) (other_of s) _ c.min-best.ensures)
 
 pub returns-then-best-eq0 : goal.returns-then-best-eq0
 returns-then-best-eq0 c =
@@ -28,9 +28,8 @@ returns-then-best-eq0 c =
     let l = c.loop-r in
     fitted_zero c.args.a.len c.args.b.len (block_of s) (other_of s) l.r c.args.h l.best l.lane l.invariant.0 c.if-best-eq0.true l.invariant.1
 
-pub trailing_blanks-t-requires : goal.trailing_blanks-t-requires
-trailing_blanks-t-requires c =
-    record { most_le_n = omega (arith, bound (goal.at.trailing_blanks-t-requires c).In-loop-r); by_index = λ k u. c.requires.inside.cells c.loop-r.r k (omega arith) u }
+pub trailing_blanks-t-requires-clause-most_le_n : goal.trailing_blanks-t-requires-clause-most_le_n
+trailing_blanks-t-requires-clause-most_le_n c = omega (arith, bound (goal.at.trailing_blanks-t-requires-clause-most_le_n c).In-loop-r)
 
 pub leading_blanks-l-requires : goal.leading_blanks-l-requires
 leading_blanks-l-requires c =

@@ -5,8 +5,8 @@ use lib.ListN.{length}
 use Rattle.letters.proofs.HeldLaws.{Passed}
 use Rattle.letters.proofs.hold_letters.Given as goal
 
-abbrev pub invariant-loop-live : goal.invariant-loop-live
-invariant-loop-live l = Passed l.head l.pack l.initial.at l.at l.starts l.widths × (length l.starts ≡ length l.initial.starts) × (length l.widths ≡ length l.initial.widths)
+abbrev pub invariant-loop-found : goal.invariant-loop-found
+invariant-loop-found l = Passed l.head l.pack l.initial.at l.at l.starts l.widths × (length l.starts ≡ length l.initial.starts) × (length l.widths ≡ length l.initial.widths)
 
-abbrev pub decreases-loop-live : goal.decreases-loop-live
-decreases-loop-live l = length l.pack - l.at
+abbrev pub decreases-loop-found : goal.decreases-loop-found
+decreases-loop-found l = length l.pack - l.at

@@ -1,6 +1,6 @@
 -- `overlap::smushing_overlap` meets its contract.
 use mathlib.Core.Path.{◌∙◌, sym}
-use Prim.Native.Nat.{◌+◌, ◌<◌, min}
+use Prim.Native.Nat.{◌+◌}
 use native.Mathlib.Omega.{arith}
 use Rattle.lanes.proofs.Smushing.{facing_mono, more-at, full_at, not_at}
 use Rattle.lanes.specs.Overlap.{has_blank}
@@ -16,12 +16,12 @@ left-of s = cells_of s.args.left.now s.args.a_starts.now s.args.a
 abbrev right_of : Start → Cells
 right_of s = cells_of s.args.right.now s.args.b_starts.now s.args.b
 
-pub rest_joins-t-requires : goal.rest_joins-t-requires
-rest_joins-t-requires c =
+pub rest_joins-t-requires-clause-o_value : goal.rest_joins-t-requires-clause-o_value
+rest_joins-t-requires-clause-o_value c =
     let f = c.fit_of-fit in
     let n = c.args.a.len in
-    let less : f.result.overlap < min n c.args.b.len = omega (arith, c.smaller-most.ensures, c.if-f-most.true) in
-    record { o_le_len = (omega arith, omega arith, f.ensures.within); inside = c.requires.inside; inside_2 = c.requires.inside_2; o_value = facing_mono has_blank (joins c.args.mode) (has-joins c.args.mode) f.result.lane n (left-of (goal.at.rest_joins-t-requires c).Start) (right_of (goal.at.rest_joins-t-requires c).Start) (f.result.overlap + 1) (f.ensures.before less) }
+    let s = (goal.at.rest_joins-t-requires-clause-o_value c).Start in
+    facing_mono has_blank (joins c.args.mode) (has-joins c.args.mode) f.result.lane n (left-of s) (right_of s) (f.result.overlap + 1) (f.ensures.before (omega (arith, c.min-most.ensures, c.if-f-most.true)))
 
 pub returns-then-t : goal.returns-then-t
 returns-then-t c =

@@ -1,10 +1,10 @@
 -- `pack::find` meets its contract.
-use mathlib.Core.Path.{sym, ◌∙◌}
-use Rattle.pack.proofs.CallLaws.{find_rows_at, find_refused}
+use mathlib.Core.Path.{◌∙◌}
+use Rattle.pack.proofs.CallLaws.{err_is, find_rows_at, find_refused}
 use Rattle.pack.proofs.find.Goals as goal
 
-pub returns-in-Rows : goal.returns-in-Rows
-returns-in-Rows c = find_rows_at c.args.pack.now _ _ _ _ (sym c.in-Rows.is ∙ c.locate.ensures)
+pub returns : goal.returns
+returns c = find_rows_at c.args.pack.now _ c.in_ok-place.field-0 c.in_ok-place.ensures
 
-pub returns-in-Refused : goal.returns-in-Refused
-returns-in-Refused c = find_refused c.args.pack.now _ _ (sym c.in-Refused.is ∙ c.locate.ensures)
+pub returns-in_err-place : goal.returns-in_err-place
+returns-in_err-place c = err_is c.from_residual.result _ c.from_residual.ensures.1 ∙ find_refused c.args.pack.now _ _ c.in_err-place.ensures

@@ -6,11 +6,10 @@ use Prim.Native.Nat.{ℕ}
 use lib.ListN.{length}
 use Rattle.records.specs.declared.Spot.TheVariants.{Free, Tail}
 use Rattle.records.specs.Versions.{head_length}
-use Rattle.records.specs.Places.{is_place}
 use Rattle.records.proofs.VersionLaws.{width_length_high}
 use Rattle.records.proofs.WalkLaws.{place-has}
 use Rattle.heads.specs.Pack.{meaning}
-use Rattle.pack.specs.declared.EditAnswer.TheVariants.{Done}
+use Rattle.std.specs.Prelude.{is_some, Ok}
 use Rattle.pack.specs.Calls.{Changes, insertion}
 use Rattle.heads.proofs.FindLaws.{low, walkable, found, spotted}
 use Rattle.pack.proofs.CallLaws.{put_present, free-room, put_free, tail-inside, put_full, put_tail, rows_few}
@@ -22,15 +21,15 @@ find_from-requires c =
     let q = c.requires in
     walkable x.pack.now x.head q.records q.said c.head_length-from.result c.head_length-from.ensures
 
-pub returns-then-is_place : goal.returns-then-is_place
-returns-then-is_place c =
+pub returns-then-is_some : goal.returns-then-is_some
+returns-then-is_some c =
     let x = c.args in
     let q = c.requires in
     let s = x.pack.now in
     let h = c.head_length-from in
     let p = found s x.head q.records q.said x.bits h.result c.find_from.result h.ensures c.find_from.ensures in
-    let there = sym (place-has x.head x.bits (head_length x.head.version) q.records) ∙ ap is_place (sym p) in
-    put_present s x.head q.records q.said x.bits x.width x.rows.now q.letter (there ∙ sym c.is_place.ensures ∙ c.if-is_place.true)
+    let there = sym (place-has x.head x.bits (head_length x.head.version) q.records) ∙ ap is_some (sym p) in
+    put_present s x.head q.records q.said x.bits x.width x.rows.now q.letter (there ∙ sym c.is_some.ensures ∙ c.if-is_some.true) c.of.result c.of.ensures
 
 pub spot_from-requires : goal.spot_from-requires
 spot_from-requires c =
@@ -45,8 +44,8 @@ write_record-requires c =
     let s = x.pack.now in
     let h = c.head_length-from in
     let p = found s x.head q.records q.said x.bits h.result c.find_from.result h.ensures c.find_from.ensures in
-    let there = sym (place-has x.head x.bits (head_length x.head.version) q.records) ∙ ap is_place (sym p) in
-    let none = there ∙ sym c.is_place.ensures ∙ c.if-is_place.false in
+    let there = sym (place-has x.head x.bits (head_length x.head.version) q.records) ∙ ap is_some (sym p) in
+    let none = there ∙ sym c.is_some.ensures ∙ c.if-is_some.false in
     let a = c.in-Free in
     let spot = spotted s x.head q.records q.said x.width h.result (Free a.at) h.ensures (sym a.is ∙ c.spot_from.ensures) in
     omega (arith, free-room s x.head q.records q.said x.bits x.width x.rows.now q.letter none a.at spot)
@@ -64,8 +63,8 @@ overflow_sub-pack c =
     let s = x.pack.now in
     let h = c.head_length-from in
     let p = found s x.head q.records q.said x.bits h.result c.find_from.result h.ensures c.find_from.ensures in
-    let there = sym (place-has x.head x.bits (head_length x.head.version) q.records) ∙ ap is_place (sym p) in
-    let none = there ∙ sym c.is_place.ensures ∙ c.if-is_place.false in
+    let there = sym (place-has x.head x.bits (head_length x.head.version) q.records) ∙ ap is_some (sym p) in
+    let none = there ∙ sym c.is_some.ensures ∙ c.if-is_some.false in
     let a = c.in-Tail in
     let spot = spotted s x.head q.records q.said x.width h.result (Tail a.at) h.ensures (sym a.is ∙ c.spot_from.ensures) in
     tail-inside s x.head q.records q.said x.bits x.width x.rows.now q.letter none a.at spot
@@ -77,11 +76,11 @@ returns-then-pack-at c =
     let s = x.pack.now in
     let h = c.head_length-from in
     let p = found s x.head q.records q.said x.bits h.result c.find_from.result h.ensures c.find_from.ensures in
-    let there = sym (place-has x.head x.bits (head_length x.head.version) q.records) ∙ ap is_place (sym p) in
-    let none = there ∙ sym c.is_place.ensures ∙ c.if-is_place.false in
+    let there = sym (place-has x.head x.bits (head_length x.head.version) q.records) ∙ ap is_some (sym p) in
+    let none = there ∙ sym c.is_some.ensures ∙ c.if-is_some.false in
     let a = c.in-Tail in
     let spot = spotted s x.head q.records q.said x.width h.result (Tail a.at) h.ensures (sym a.is ∙ c.spot_from.ensures) in
-    put_full s x.head q.records q.said x.bits x.width x.rows.now q.letter none a.at spot (omega (arith, c.if-pack-at.true, c.record_head_length.ensures))
+    put_full s x.head q.records q.said x.bits x.width x.rows.now q.letter none a.at spot (omega (arith, c.if-pack-at.true, c.record_head_length.ensures)) c.of-then-pack-at.result c.of-then-pack-at.ensures
 
 pub returns-in-Free : goal.returns-in-Free
 returns-in-Free c =
@@ -90,11 +89,11 @@ returns-in-Free c =
     let s = x.pack.now in
     let h = c.head_length-from in
     let p = found s x.head q.records q.said x.bits h.result c.find_from.result h.ensures c.find_from.ensures in
-    let there = sym (place-has x.head x.bits (head_length x.head.version) q.records) ∙ ap is_place (sym p) in
-    let none = there ∙ sym c.is_place.ensures ∙ c.if-is_place.false in
+    let there = sym (place-has x.head x.bits (head_length x.head.version) q.records) ∙ ap is_some (sym p) in
+    let none = there ∙ sym c.is_some.ensures ∙ c.if-is_some.false in
     let a = c.in-Free in
     let spot = spotted s x.head q.records q.said x.width h.result (Free a.at) h.ensures (sym a.is ∙ c.spot_from.ensures) in
-    subst (λ (new : List ℕ). Changes (insertion (meaning s) (length s) x.bits x.width x.rows.now) s Done new) (sym c.write_record.ensures) (put_free s x.head q.records q.said x.bits x.width x.rows.now q.letter none a.at spot)
+    subst (λ (new : List ℕ). Changes (insertion (meaning s) (length s) x.bits x.width x.rows.now) s (Ok tt) new) (sym c.write_record.ensures) (put_free s x.head q.records q.said x.bits x.width x.rows.now q.letter none a.at spot)
 
 pub returns-else-pack-at : goal.returns-else-pack-at
 returns-else-pack-at c =
@@ -103,8 +102,8 @@ returns-else-pack-at c =
     let s = x.pack.now in
     let h = c.head_length-from in
     let p = found s x.head q.records q.said x.bits h.result c.find_from.result h.ensures c.find_from.ensures in
-    let there = sym (place-has x.head x.bits (head_length x.head.version) q.records) ∙ ap is_place (sym p) in
-    let none = there ∙ sym c.is_place.ensures ∙ c.if-is_place.false in
+    let there = sym (place-has x.head x.bits (head_length x.head.version) q.records) ∙ ap is_some (sym p) in
+    let none = there ∙ sym c.is_some.ensures ∙ c.if-is_some.false in
     let a = c.in-Tail in
     let spot = spotted s x.head q.records q.said x.width h.result (Tail a.at) h.ensures (sym a.is ∙ c.spot_from.ensures) in
-    subst (λ (new : List ℕ). Changes (insertion (meaning s) (length s) x.bits x.width x.rows.now) s Done new) (sym c.write_record-in-Tail.ensures) (put_tail s x.head q.records q.said x.bits x.width x.rows.now q.letter none a.at spot (omega (arith, tail-inside s x.head q.records q.said x.bits x.width x.rows.now q.letter none a.at spot, c.if-pack-at.false, c.record_head_length.ensures)))
+    subst (λ (new : List ℕ). Changes (insertion (meaning s) (length s) x.bits x.width x.rows.now) s (Ok tt) new) (sym c.write_record-in-Tail.ensures) (put_tail s x.head q.records q.said x.bits x.width x.rows.now q.letter none a.at spot (omega (arith, tail-inside s x.head q.records q.said x.bits x.width x.rows.now q.letter none a.at spot, c.if-pack-at.false, c.record_head_length.ensures)))

@@ -1,8 +1,8 @@
 -- `packdrawing::draw_opened` meets its contract.
-use mathlib.Core.Path.{sym, ◌∙◌, subst}
+use mathlib.Core.Path.{sym, ap, ◌∙◌, subst}
 use lib.ListN.{length}
 use Rattle.source.specs.Source.{pack_source}
-use Rattle.drawing.specs.Drawing.{Lined, PutOut}
+use Rattle.drawing.specs.Drawing.{Lined, unlined, PutOut}
 use Rattle.packdrawing.proofs.PackCases.{of_bad_layout, of_good_layout, pack_gives}
 use Rattle.packdrawing.proofs.draw_opened.Goals as goal
 
@@ -27,4 +27,4 @@ returns c =
     let p = c.requires.by_index in
     let d = c.refuse in
     subst (λ (l : Lined). PutOut l (length a.out.now) d.result d.new.out)
-    (sym (of_bad_layout a.pack.now a.layout a.direction a.file.now a.text.now a.head p.0 p.1 (sym c.good_layout.ensures ∙ c.if-good_layout.false))) d.ensures
+    (ap unlined c.of.ensures ∙ sym (of_bad_layout a.pack.now a.layout a.direction a.file.now a.text.now a.head p.0 p.1 (sym c.good_layout.ensures ∙ c.if-good_layout.false))) d.ensures

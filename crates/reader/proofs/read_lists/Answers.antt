@@ -1,10 +1,12 @@
 -- `reader::read_lists` meets its contract: the font is opened, and its characters are read from there on.
-use mathlib.Core.Path.{sym, ◌∙◌}
+use Rattle.std.proofs.lemmas.Result.{err_from_is_err_and}
 use Rattle.reader.proofs.ReadLaws.{opened, closed}
 use Rattle.reader.proofs.read_lists.Goals as goal
 
-pub returns-in-Open : goal.returns-in-Open
-returns-in-Open c = opened _ _ _ _ _ _ _ (sym c.in-Open.is ∙ c.open_font.ensures) c.read_characters.ensures
+pub returns-in_err-opening : goal.returns-in_err-opening
+returns-in_err-opening c =
+    let p = err_from_is_err_and c.from_residual.result c.from_residual.ensures.1 in
+    rw (p.1, p.2) (closed _ _ _ _ _ c.in_err-opening.ensures)
 
-pub returns-in-Closed : goal.returns-in-Closed
-returns-in-Closed c = closed _ _ _ _ _ (sym c.in-Closed.is ∙ c.open_font.ensures)
+pub returns : goal.returns
+returns c = opened _ _ _ _ c.in_ok-opening.opening _ c.in_ok-opening.ensures c.read_characters.ensures

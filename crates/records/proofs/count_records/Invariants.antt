@@ -6,8 +6,8 @@ use Rattle.records.specs.Records.{record_list}
 use Rattle.records.specs.Steps.{counted_from}
 use Rattle.records.proofs.count_records.Given as goal
 
-abbrev pub invariant-loop-live : goal.invariant-loop-live
-invariant-loop-live l = (l.n ≤ l.at) × (l.at ≤ length l.s) × (counted_from 0 (record_list l.head (drop l.from l.s)) ≡ counted_from l.n (record_list l.head (drop l.at l.s)))
+abbrev pub invariant-loop-found : goal.invariant-loop-found
+invariant-loop-found l = (l.n ≤ l.at) × (l.at ≤ length l.s) × (counted_from 0 (record_list l.head (drop l.from l.s)) ≡ counted_from l.n (record_list l.head (drop l.at l.s)))
 
-abbrev pub decreases-loop-live : goal.decreases-loop-live
-decreases-loop-live l = length l.s - l.at
+abbrev pub decreases-loop-found : goal.decreases-loop-found
+decreases-loop-found l = length l.s - l.at

@@ -1,42 +1,42 @@
 use mathlib.Core.Path.{sym, ◌∙◌}
 use native.Mathlib.Omega.{arith}
-use Rattle.records.proofs.WalkLaws.{skim_at, skim_end, walk_on, met_here, met_next, met-none}
+use Rattle.records.proofs.WalkLaws.{skim_at, skim_end, walk_on, first_here, first_next, first_none}
 use Rattle.records.proofs.first_from.Goals as goal
 
-pub returns-then-is_wanted : goal.returns-then-is_wanted
-returns-then-is_wanted c =
+pub returns-then-wanted : goal.returns-then-wanted
+returns-then-wanted g c = λ p t.
     let a = c.args in
-    let l = c.loop-live in
-    let g = c.in-Record in
-    let x = skim_at a.head a.s.now l.at l.invariant.0 g.live g.code g.width g.size (sym g.is ∙ c.skim_part.ensures) in
-    sym (l.invariant.1 ∙ met_here a.head a.s.now l.at g.live g.code g.width g.size x a.wanted (sym c.is_wanted.ensures ∙ c.if-is_wanted.true))
+    let l = c.loop-found in
+    let r = c.in-Some.found in
+    let x = skim_at a.head a.s.now l.at l.invariant.0 r (sym c.in-Some.is ∙ c.skim_part.ensures) in
+    sym (l.invariant.1 p t ∙ first_here a.head a.s.now l.at r x p (sym (t r c.wanted.result c.wanted.ensures) ∙ c.if-wanted.true))
 
 pub overflow_add-at : goal.overflow_add-at
-overflow_add-at c =
+overflow_add-at g c =
     let a = c.args in
-    let l = c.loop-live in
-    let g = c.in-Record in
-    let x = skim_at a.head a.s.now l.at l.invariant.0 g.live g.code g.width g.size (sym g.is ∙ c.skim_part.ensures) in
+    let l = c.loop-found in
+    let r = c.in-Some.found in
+    let x = skim_at a.head a.s.now l.at l.invariant.0 r (sym c.in-Some.is ∙ c.skim_part.ensures) in
     omega (arith, x.inside l.invariant.0.inside)
 
-pub loop-live-smaller : goal.loop-live-smaller
-loop-live-smaller c =
+pub loop-found-smaller : goal.loop-found-smaller
+loop-found-smaller g c =
     let a = c.args in
-    let l = c.loop-live in
-    let g = c.in-Record in
-    let x = skim_at a.head a.s.now l.at l.invariant.0 g.live g.code g.width g.size (sym g.is ∙ c.skim_part.ensures) in
+    let l = c.loop-found in
+    let r = c.in-Some.found in
+    let x = skim_at a.head a.s.now l.at l.invariant.0 r (sym c.in-Some.is ∙ c.skim_part.ensures) in
     omega (arith, x.inside l.invariant.0.inside, x.some)
 
-pub loop-live-preserved : goal.loop-live-preserved
-loop-live-preserved c =
+pub loop-found-preserved : goal.loop-found-preserved
+loop-found-preserved g c =
     let a = c.args in
-    let l = c.loop-live in
-    let g = c.in-Record in
-    let x = skim_at a.head a.s.now l.at l.invariant.0 g.live g.code g.width g.size (sym g.is ∙ c.skim_part.ensures) in
-    (walk_on a.head a.s.now l.at l.invariant.0 g.live g.code g.width g.size x, l.invariant.1 ∙ met_next a.head a.s.now l.at g.live g.code g.width g.size x a.wanted (sym c.is_wanted.ensures ∙ c.if-is_wanted.false))
+    let l = c.loop-found in
+    let r = c.in-Some.found in
+    let x = skim_at a.head a.s.now l.at l.invariant.0 r (sym c.in-Some.is ∙ c.skim_part.ensures) in
+    (walk_on a.head a.s.now l.at l.invariant.0 r x, λ p t. l.invariant.1 p t ∙ first_next a.head a.s.now l.at r x p (sym (t r c.wanted.result c.wanted.ensures) ∙ c.if-wanted.false))
 
-pub returns-in-End : goal.returns-in-End
-returns-in-End c =
+pub returns : goal.returns
+returns g c = λ p t.
     let a = c.args in
-    let l = c.loop-live in
-    sym (l.invariant.1 ∙ met-none a.head a.s.now l.at a.wanted _ (skim_end a.head a.s.now l.at l.invariant.0 (sym c.in-End.is ∙ c.skim_part.ensures)))
+    let l = c.loop-found in
+    sym (l.invariant.1 p t ∙ first_none a.head a.s.now l.at p _ (skim_end a.head a.s.now l.at l.invariant.0 (sym c.in_default.is ∙ c.skim_part.ensures)))

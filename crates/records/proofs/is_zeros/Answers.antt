@@ -1,15 +1,21 @@
-use mathlib.Core.Path.{sym, ◌∙◌}
-use native.Mathlib.Omega.{arith}
-use borrow.Author.Tests.{eq-eqb, ne_eqb}
-use Rattle.ground.proofs.Runs.{all_more, all_not, all_end}
+-- `records::is_zeros` meets its contract.
+use mathlib.Core.Path.{◌≡◌, ◌∙◌, refl, ap}
+use mathlib.Core.Bool.{Bool, ◌&&◌}
+use mathlib.Core.List.{List, [], ◌∷◌}
+use Prim.Native.Nat.{ℕ}
+use borrow.Author.Rules.{rules}
+use borrow.Author.Tests.{tests}
+use Rattle.std.specs.List.{list_all}
+use Rattle.std.proofs.lemmas.Iterator.{YieldsList-from_slice}
+use Rattle.std.proofs.lemmas.Iterator.Search.{all_from_yields_List}
+use Rattle.ground.specs.Runs.{all}
 use Rattle.records.specs.Records.{is_zero}
 use Rattle.records.proofs.is_zeros.Goals as goal
 
-pub returns-then-t-i-ne0 : goal.returns-then-t-i-ne0
-returns-then-t-i-ne0 c = let l = c.loop-i in sym (l.invariant ∙ all_not is_zero c.args.t.now l.i (omega arith) (ne_eqb _ 0 c.if-t-i-ne0.true))
-
-pub loop-i-preserved : goal.loop-i-preserved
-loop-i-preserved c = let l = c.loop-i in l.invariant ∙ all_more is_zero c.args.t.now l.i (omega arith) (eq-eqb _ 0 c.if-t-i-ne0.false)
+all_is : (p : ℕ → Bool) (t : List ℕ) → list_all p t ≡ all p t
+unfolding all
+all_is p [] = refl
+all_is p (x ∷ t) = ap (λ (b : Bool). p x && b) (all_is p t)
 
 pub returns : goal.returns
-returns c = sym (c.loop-i.invariant ∙ all_end is_zero c.args.t.now c.loop-i.i (omega arith))
+returns c = all_from_yields_List is_zero _ _ c.all.result c.all.ensures.ran (YieldsList-from_slice c.args.t.now cc) (λ x b q k. search (rules, tests)) ∙ all_is is_zero c.args.t.now

@@ -7,8 +7,8 @@ use Rattle.records.specs.Steps.{Walkable}
 use Rattle.records.proofs.WalkLaws.{records_at}
 use Rattle.records.proofs.none_twice.Given as goal
 
-abbrev pub invariant-loop-live : goal.invariant-loop-live
-invariant-loop-live l = Walkable l.head l.s l.at × (none_twice (records_at l.head l.s l.from) ≡ none_twice (records_at l.head l.s l.at))
+abbrev pub invariant-loop-found : goal.invariant-loop-found
+invariant-loop-found l = Walkable l.head l.s l.at × (none_twice (records_at l.head l.s l.from) ≡ none_twice (records_at l.head l.s l.at))
 
-abbrev pub decreases-loop-live : goal.decreases-loop-live
-decreases-loop-live l = length l.s - l.at
+abbrev pub decreases-loop-found : goal.decreases-loop-found
+decreases-loop-found l = length l.s - l.at

@@ -1,17 +1,27 @@
 -- `request::request` meets its contract: one law for each way to return.
-use mathlib.Core.Path.{sym, ◌∙◌}
+use mathlib.Core.Path.{sym, ap, ◌∙◌}
+use Rattle.std.specs.Prelude.{Ok, Err}
+use Rattle.std.proofs.lemmas.Result.{err_from_is_err_and}
 use Rattle.lines.proofs.PlaceLaws.{skipped_to}
 use Rattle.request.proofs.RequestLaws.{row-found, row-high, row-missing, row_unread}
+use Rattle.request.proofs.request.Goals.{in_default-via-in-Some+else-row-sought, in_default-via-in_default}
 use Rattle.request.proofs.request.Goals as goal
 
-pub returns-then-row-height : goal.returns-then-row-height
-returns-then-row-height c = row-found _ _ _ _ _ (sym c.in-Found.is ∙ c.seek.ensures) c.if-row-height.true _ (skipped_to _ _ _ _ c.skip-skipped.ensures)
+pub returns-in_err-found : goal.returns-in_err-found
+returns-in_err-found c =
+    let p = err_from_is_err_and c.from_residual.result c.from_residual.ensures.1 in
+    rw (p.1, p.2) (row_unread c.args.font.now c.args.code c.args.row _ (sym c.in_err-found.was ∙ c.seek.ensures))
 
-pub returns-else-row-height : goal.returns-else-row-height
-returns-else-row-height c = row-high _ _ _ _ _ (sym c.in-Found.is ∙ c.seek.ensures) c.if-row-height.false _ c.bad_request.ensures
+pub returns-in-Some : goal.returns-in-Some
+returns-in-Some c =
+    let a = c.args in
+    row-found a.font.now a.code a.row c.in-Some.sought (sym (c.in_ok-found.was ∙ ap Ok c.in-Some.is) ∙ c.seek.ensures) c.if-row-sought.true _ (skipped_to _ _ _ _ c.skip.ensures)
 
-pub returns-in-NoDrawing : goal.returns-in-NoDrawing
-returns-in-NoDrawing c = row-missing _ _ _ (sym c.in-NoDrawing.is ∙ c.seek.ensures) _ c.bad_request-in-NoDrawing.ensures
-
-pub returns-in-Unread : goal.returns-in-Unread
-returns-in-Unread c = row_unread _ _ _ _ (sym c.in-Unread.is ∙ c.seek.ensures)
+pub returns-in_default : goal.returns-in_default
+returns-in_default c =
+    let a = c.args in
+    ap Err c.of.ensures ∙
+    elim c.in_default.branch [
+      | in_default-via-in-Some+else-row-sought w ↦ row-high a.font.now a.code a.row w.in-Some.sought (sym (c.in_ok-found.was ∙ ap Ok w.in-Some.is) ∙ c.seek.ensures) w.if-row-sought.false
+      | in_default-via-in_default w ↦ row-missing a.font.now a.code a.row (sym (c.in_ok-found.was ∙ ap Ok w.in_default.is) ∙ c.seek.ensures)
+    ]

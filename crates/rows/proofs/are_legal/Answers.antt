@@ -1,17 +1,13 @@
-use mathlib.Core.Path.{sym, ◌∙◌}
-use native.Mathlib.Omega.{arith}
-use Rattle.ground.proofs.Runs.{all_more, all_not, all_end}
+-- `rows::are_legal` meets its contract: the library's `all` is the one of the definitions.
+use mathlib.Core.Path.{◌∙◌}
+use borrow.Author.Tests.{tests}
+use Rattle.std.proofs.Common.{rules}
+use Rattle.std.proofs.lemmas.Iterator.{YieldsList-from_slice}
+use Rattle.std.proofs.lemmas.Iterator.Search.{all_from_yields_List}
 use Rattle.rows.specs.Rows.{legal_byte}
+use Rattle.rows.proofs.AllLaws.{all_is}
 use Rattle.rows.proofs.are_legal.Goals as goal
-
-pub loop-i-preserved : goal.loop-i-preserved
-loop-i-preserved c =
-    (omega arith, c.loop-i.invariant.1 ∙ all_more (legal_byte c.args.hardblank.0) _ c.loop-i.i (omega arith) (sym c.is_legal.ensures ∙ c.if-is_legal.true))
-
-pub returns-else-is_legal : goal.returns-else-is_legal
-returns-else-is_legal c =
-    sym (c.loop-i.invariant.1 ∙ all_not (legal_byte c.args.hardblank.0) _ c.loop-i.i (omega arith) (sym c.is_legal.ensures ∙ c.if-is_legal.false))
 
 pub returns : goal.returns
 returns c =
-    sym (c.loop-i.invariant.1 ∙ all_end (legal_byte c.args.hardblank.0) _ c.loop-i.i (omega arith))
+    all_from_yields_List (legal_byte c.args.hardblank.0) _ _ c.all.result c.all.ensures.ran (YieldsList-from_slice c.args.t.now cc) (λ x b q k. search (rules, tests)) ∙ all_is (legal_byte c.args.hardblank.0) c.args.t.now

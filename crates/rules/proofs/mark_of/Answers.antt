@@ -1,7 +1,7 @@
--- `rules::mark_of` meets its contract.
-use mathlib.Core.Path.{refl, sym}
+-- `rules::mark_of` meets its contract: each arm has the entry of its sub-character.
+use mathlib.Core.Path.{sym}
 use native.Mathlib.Omega.{arith}
-use Rattle.rules.proofs.Table.{marked, not_marked}
+use Rattle.rules.proofs.Table.{marked}
 use Rattle.rules.proofs.mark_of.Goals as goal
 
 pub returns-in-124 : goal.returns-in-124
@@ -36,9 +36,3 @@ returns-in-60 c = marked 9 c.args.x.0 (omega arith) (sym c.in-60.is)
 
 pub returns-in-62 : goal.returns-in-62
 returns-in-62 c = marked 10 c.args.x.0 (omega arith) (sym c.in-62.is)
-
-pub returns-in_default : goal.returns-in_default
-returns-in_default c =
-    let r = c.in_default.in_default-own.rest in
-    let none = not_marked c.args.x.0 r.0.0.0.0.0.0.0.0.0.0.1 r.0.0.0.0.0.0.0.0.0.1 r.0.0.0.0.0.0.0.0.1 r.0.0.0.0.0.0.0.1 r.0.0.0.0.0.0.1 r.0.0.0.0.0.1 r.0.0.0.0.1 r.0.0.0.1 r.0.0.1 r.0.1 r.1 in
-    record { itself = refl; class = sym none; partner = λ h. absurd (omega arith) }

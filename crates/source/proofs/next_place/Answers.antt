@@ -9,8 +9,8 @@ use Rattle.source.proofs.next_place.Goals as goal
 pub overflow_add-result : goal.overflow_add-result
 overflow_add-result c = omega (arith, byte-within c.args.font.now c.args.at c.requires)
 
-pub returns-in-Line : goal.returns-in-Line
-returns-in-Line c = (line-found _ _ _ _ _ (sym c.in-Line.is ∙ c.next.ensures)).further
+pub returns-in-Some : goal.returns-in-Some
+returns-in-Some c = (line-found _ _ c.in-Some.line (sym c.in-Some.is ∙ c.next.ensures)).further
 
-pub returns-in-NoLine : goal.returns-in-NoLine
-returns-in-NoLine c = sym (next_stuck _ _ (line_missed _ _ (sym c.in-NoLine.is ∙ c.next.ensures)))
+pub returns-in-None : goal.returns-in-None
+returns-in-None c = sym (next_stuck _ _ (line_missed _ _ (sym c.in-None.is ∙ c.next.ensures)))

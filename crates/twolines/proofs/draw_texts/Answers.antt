@@ -1,5 +1,5 @@
 -- `twolines::draw_texts` meets its contract.
-use mathlib.Core.Path.{sym, ◌∙◌, ap₂}
+use mathlib.Core.Path.{sym, ◌∙◌, ap, ap₂}
 use native.Mathlib.Omega.{arith}
 use Rattle.subchars.specs.declared.Mode.{Mode}
 use Rattle.subchars.specs.declared.VerticalLayout.{VerticalLayout}
@@ -7,23 +7,22 @@ use Rattle.source.specs.Source.{font_source}
 use Rattle.source.proofs.CharacterLaws.{given-high, font_gives}
 use Rattle.drawing.specs.Drawing.{text_codes, lined_text}
 use Rattle.drawing.proofs.DrawingLaws.{as_many}
-use Rattle.twolines.specs.TwoLines.{closed_up}
+use Rattle.twolines.specs.TwoLines.{no_lines, closed_up}
 use Rattle.twolines.proofs.LinesLaws.{lines_as, upper_long, lower_long, both_lined}
+use Rattle.twolines.proofs.draw_texts.Goals.{then-upper-gt-MAX_TEXT-via-then-upper-gt-MAX_TEXT, then-upper-gt-MAX_TEXT-via-else-upper-gt-MAX_TEXT+then-lower-gt-MAX_TEXT}
 use Rattle.twolines.proofs.draw_texts.Goals as goal
 
 pub returns-then-upper-gt-MAX_TEXT : goal.returns-then-upper-gt-MAX_TEXT
 returns-then-upper-gt-MAX_TEXT c =
     let a = c.args in
     let f = c.requires.font_held in
-    λ control held.
-    lines_as _ _ _ _ _ (upper_long a.font.now control a.upper.now a.lower.now a.header f.characters held.commands held.count f.said held.said c.if-upper-gt-MAX_TEXT.true) c.refuse.ensures
-
-pub returns-then-lower-gt-MAX_TEXT : goal.returns-then-lower-gt-MAX_TEXT
-returns-then-lower-gt-MAX_TEXT c =
-    let a = c.args in
-    let f = c.requires.font_held in
-    λ control held.
-    lines_as _ _ _ _ _ (lower_long a.font.now control a.upper.now a.lower.now a.header f.characters held.commands held.count f.said held.said c.if-upper-gt-MAX_TEXT.false c.if-lower-gt-MAX_TEXT.true) c.refuse-then-lower-gt-MAX_TEXT.ensures
+    let said = ap no_lines (sym c.of.ensures) in
+    elim c.then-upper-gt-MAX_TEXT.branch [
+      | then-upper-gt-MAX_TEXT-via-then-upper-gt-MAX_TEXT w ↦ λ control held.
+          lines_as _ _ _ _ _ (upper_long a.font.now control a.upper.now a.lower.now a.header f.characters held.commands held.count f.said held.said w.if-upper-gt-MAX_TEXT.true ∙ said) c.refuse.ensures
+      | then-upper-gt-MAX_TEXT-via-else-upper-gt-MAX_TEXT+then-lower-gt-MAX_TEXT w ↦ λ control held.
+          lines_as _ _ _ _ _ (lower_long a.font.now control a.upper.now a.lower.now a.header f.characters held.commands held.count f.said held.said w.if-upper-gt-MAX_TEXT.false w.if-lower-gt-MAX_TEXT.true ∙ said) c.refuse.ensures
+    ]
 
 pub join_both-drawn-requires : goal.join_both-drawn-requires
 join_both-drawn-requires c =

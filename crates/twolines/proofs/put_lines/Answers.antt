@@ -1,45 +1,16 @@
 -- `twolines::put_lines` meets its contract.
-use mathlib.Core.Path.{◌≡◌, sym, subst}
-use mathlib.Core.List.{List}
-use Prim.Native.Nat.{ℕ, ◌-◌, ◌≤◌}
-use native.Mathlib.Omega.{arith}
-use lib.ListN.{length, take, drop, length-drop}
-use lib.Seq.{length-take-le}
-use Rattle.ground.specs.Limits.{max_line_width, min_scratch, min_stacked_scratch}
-use Rattle.columns.specs.Placing.{PlacedIn}
+use mathlib.Core.Path.{sym, subst}
+use Rattle.ground.specs.Limits.{max_line_width}
 use Rattle.drawing.specs.Steps.{TextDrawn}
-use Rattle.ground.proofs.Halves.{part-behind}
-use Rattle.twolines.proofs.OutputLaws.{placed_in, both_put}
+use Rattle.twolines.proofs.OutputLaws.{both_put}
 use Rattle.twolines.proofs.put_lines.Goals as goal
-
--- the halves of the scratch
-abbrev upper : List ℕ → List ℕ
-upper scratch = take min_scratch scratch
-
-abbrev lower : List ℕ → List ℕ
-lower scratch = drop min_scratch scratch
-
-upper_long : (scratch : List ℕ) → min_stacked_scratch ≤ length scratch → length (upper scratch) ≡ min_scratch
-upper_long scratch u = length-take-le min_scratch scratch (omega (arith, u))
-
-pub slice_bounds-upper-end : goal.slice_bounds-upper-end
-slice_bounds-upper-end c = sym (upper_long c.args.scratch.now c.requires.2)
-
-pub put_stack-answer-requires : goal.put_stack-answer-requires
-put_stack-answer-requires c =
-    let a = c.args in
-    let u = c.line_place-u in
-    let l = c.line_place-l in
-    let long : min_scratch ≤ length (lower a.scratch.now) = omega (arith, c.requires.2, length-drop min_scratch a.scratch.now) in record {
-      placed_in = subst (PlacedIn (upper a.scratch.now)) (sym u.ensures) (placed_in a.mode.direction _ a.height (upper a.scratch.now) c.if-a-gt-MAX_LINE_WIDTH.false c.requires.0 c.requires.1 (omega (arith, upper_long a.scratch.now c.requires.2)));
-      placed_in_2 = subst (λ (area : List ℕ). PlacedIn area l.result) (sym (part-behind min_scratch a.scratch.now))
-          (subst (PlacedIn (lower a.scratch.now)) (sym l.ensures) (placed_in a.mode.direction _ a.height (lower a.scratch.now) c.if-b-gt-MAX_LINE_WIDTH.false c.requires.0 c.requires.1 long));
-      end_bound = omega arith;
-    }
 
 pub returns : goal.returns
 returns c =
     let a = c.args in
+    let halves = c.split_at in
     λ source us ls so are.
-    both_put a.mode a.vertical a.height source us ls a.drawn (upper a.scratch.now) (take (length a.scratch.now - min_scratch) (lower a.scratch.now)) so.first
-    (subst (TextDrawn a.mode a.height max_line_width source ls a.drawn.lower) (sym (part-behind min_scratch a.scratch.now)) so.second) _ _ _ c.if-a-gt-MAX_LINE_WIDTH.false c.if-b-gt-MAX_LINE_WIDTH.false _ _ c.line_place-u.ensures c.line_place-l.ensures _ c.with_counts.ensures.0 a.counts are c.with_counts.ensures.1 c.put_stack-answer.ensures
+    both_put a.mode a.vertical a.height source us ls a.drawn halves.result.0.now halves.result.1.now
+    (subst (TextDrawn a.mode a.height max_line_width source us a.drawn.upper) (sym halves.ensures.front) so.first)
+    (subst (TextDrawn a.mode a.height max_line_width source ls a.drawn.lower) (sym halves.ensures.back) so.second) _ _ _ c.if-u-gt-MAX_LINE_WIDTH.false c.if-l-gt-MAX_LINE_WIDTH.false c.line_in-upper.result c.line_in-lower.result c.line_in-upper.ensures c.line_in-lower.ensures _
+    c.with_counts.ensures.0 a.counts are c.with_counts.ensures.1 c.put_stack-answer.ensures

@@ -1,10 +1,12 @@
 -- `wattleslate::draw` meets its contract, for every input.
-use lib.ListN.{length}
-use Rattle.wattleslate.proofs.DrawCases.{put_told}
+use mathlib.Core.Path.{ap}
+use Rattle.wattleslate.specs.DrawCall.{draw_tells, draw_told, draw_output}
 use Rattle.wattleslate.proofs.draw.Goals as goal
 
-pub returns : goal.returns
-returns c =
-    let a = c.args in
-    let p = put_told (length a.scratch.now) a.font.now a.control.now a.text.now _ _ _ c.draw.ensures.put_out in
-    record { answer = p.0; output = p.1; scratch = c.draw.ensures.scratch_after }
+pub returns-clause-answer : goal.returns-clause-answer
+unfolding draw_told
+returns-clause-answer c = ap draw_tells c.draw.ensures.put_out.answers
+
+pub returns-clause-output : goal.returns-clause-output
+unfolding draw_output
+returns-clause-output c = c.draw.ensures.put_out.holds

@@ -1,5 +1,5 @@
 -- `wattleslate::row_of_two` meets its contract, for every input: a row that is given is a part of the font that is named.
-use mathlib.Core.Path.{refl, sym, ◌∙◌, subst}
+use mathlib.Core.Path.{sym, ap, ◌∙◌, subst}
 use Prim.Native.Nat.{◌+◌, ◌≤◌}
 use native.Mathlib.Omega.{arith}
 use lib.ListN.{length}
@@ -7,7 +7,8 @@ use Rattle.fontlists.specs.declared.two.Which.{Which}
 use Rattle.fontlists.specs.declared.two.Which.TheVariants.{First, Second}
 use Rattle.fontlists.specs.TwoFonts.{bytes_in}
 use Rattle.twofonts.proofs.RowLaws.{row_fits}
-use Rattle.wattleslate.proofs.RowOfTwoLaws.{either_short, two_part, two_refused, lies_in_one, lies_in_none}
+use Rattle.wattleslate.specs.RowOfTwoCall.{part_of_two, row_of_two_bytes}
+use Rattle.wattleslate.proofs.RowOfTwoLaws.{either_short, two_part}
 use Rattle.wattleslate.proofs.row_of_two.Goals as goal
 
 pub overflow_add-end : goal.overflow_add-end
@@ -27,20 +28,18 @@ slice_bounds-result-end-in-Second c =
     let a = c.args in
     subst (λ (w : Which). c.in-Row.place + c.in-Row.width ≤ length (bytes_in w a.first.now a.second.now)) c.in-Second.is (row_fits a.first.now a.second.now a.code a.row _ _ _ (sym c.request.ensures ∙ c.in-Row.is))
 
-pub returns-in-First : goal.returns-in-First
-returns-in-First c =
+pub returns-in-First-clause-part : goal.returns-in-First-clause-part
+returns-in-First-clause-part c =
     let a = c.args in
-    let e = sym c.in-Row.is ∙ c.request.ensures in
-    record { part = two_part a.first.now a.second.now a.code a.row _ First _ _ e c.in-First.is; place = lies_in_one a.first.now a.second.now a.code a.row _ _ _ _ First _ _ e c.in-First.is refl refl }
+    two_part a.first.now a.second.now a.code a.row _ First _ _ (sym c.in-Row.is ∙ c.request.ensures) c.in-First.is
 
-pub returns-in-Second : goal.returns-in-Second
-returns-in-Second c =
+pub returns-in-Second-clause-part : goal.returns-in-Second-clause-part
+returns-in-Second-clause-part c =
     let a = c.args in
-    let e = sym c.in-Row.is ∙ c.request.ensures in
-    record { part = two_part a.first.now a.second.now a.code a.row _ Second _ _ e c.in-Second.is; place = lies_in_one a.first.now a.second.now a.code a.row _ _ _ _ Second _ _ e c.in-Second.is refl refl }
+    two_part a.first.now a.second.now a.code a.row _ Second _ _ (sym c.in-Row.is ∙ c.request.ensures) c.in-Second.is
 
-pub returns-in-Refused : goal.returns-in-Refused
-returns-in-Refused c =
+pub returns-in-Refused-clause-part : goal.returns-in-Refused-clause-part
+unfolding row_of_two_bytes
+returns-in-Refused-clause-part c =
     let a = c.args in
-    let e = sym c.in-Refused.is ∙ c.request.ensures in
-    record { part = two_refused a.first.now a.second.now a.code a.row _ e; place = lies_in_none a.first.now a.second.now a.code a.row _ _ _ _ e }
+    ap (part_of_two a.first.now a.second.now) (sym c.in-Refused.is ∙ c.request.ensures)

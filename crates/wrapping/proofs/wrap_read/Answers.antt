@@ -4,7 +4,7 @@ use Rattle.subchars.specs.declared.Mode.{Mode}
 use Rattle.source.specs.Source.{font_source}
 use Rattle.source.proofs.CharacterLaws.{font_gives}
 use Rattle.drawing.specs.Drawing.{mode_of}
-use Rattle.wrapping.specs.Wrapping.{wrap_text}
+use Rattle.wrapping.specs.Wrapping.{unwrapped, wrap_text}
 use Rattle.wrapping.proofs.OrderLaws.{out_as, limit_good, read-wrapped, tested_long, tested_limit, tested_text}
 use Rattle.wrapping.proofs.wrap_read.Goals as goal
 
@@ -13,14 +13,14 @@ returns-then-text-gt-MAX_TEXT c =
     let a = c.args in
     let f = c.requires.font_held in
     λ control held.
-    out_as _ _ _ _ _ _ _ _ _ (read-wrapped a.font.now control a.limit a.text.now a.header f.characters held.commands held.count f.said held.said ∙ tested_long (mode_of a.header) a.header.height (font_source a.font.now f.characters) held.commands held.count a.limit a.text.now c.if-text-gt-MAX_TEXT.true) c.refuse.ensures
+    out_as _ _ _ _ _ _ _ _ _ (read-wrapped a.font.now control a.limit a.text.now a.header f.characters held.commands held.count f.said held.said ∙ tested_long (mode_of a.header) a.header.height (font_source a.font.now f.characters) held.commands held.count a.limit a.text.now c.if-text-gt-MAX_TEXT.true ∙ ap unwrapped (sym c.of.ensures)) c.refuse.ensures
 
 pub returns-then-bad_limit : goal.returns-then-bad_limit
 returns-then-bad_limit c =
     let a = c.args in
     let f = c.requires.font_held in
     λ control held.
-    out_as _ _ _ _ _ _ _ _ _ (read-wrapped a.font.now control a.limit a.text.now a.header f.characters held.commands held.count f.said held.said ∙ tested_limit (mode_of a.header) a.header.height (font_source a.font.now f.characters) held.commands held.count a.limit a.text.now c.if-text-gt-MAX_TEXT.false (sym c.bad_limit.ensures ∙ c.if-bad_limit.true)) c.refuse-then-bad_limit.ensures
+    out_as _ _ _ _ _ _ _ _ _ (read-wrapped a.font.now control a.limit a.text.now a.header f.characters held.commands held.count f.said held.said ∙ tested_limit (mode_of a.header) a.header.height (font_source a.font.now f.characters) held.commands held.count a.limit a.text.now c.if-text-gt-MAX_TEXT.false (sym c.bad_limit.ensures ∙ c.if-bad_limit.true) ∙ ap unwrapped (sym c.of-then-bad_limit.ensures)) c.refuse-then-bad_limit.ensures
 
 pub wrap_text-requires : goal.wrap_text-requires
 wrap_text-requires c =

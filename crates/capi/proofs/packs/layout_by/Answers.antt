@@ -5,10 +5,10 @@ use Rattle.subchars.specs.Layouts.{full_layout_of}
 use Rattle.capi.specs.Numbers.{shapeless, layout_by}
 use Rattle.capi.proofs.packs.layout_by.Goals as goal
 
-pub returns-then-both : goal.returns-then-both
+pub returns-then-legal_mode : goal.returns-then-legal_mode
 unfolding layout_by
-returns-then-both c = c.from_full.ensures ∙ sym (ap (λ (b : Bool). cond b (full_layout_of c.args.layout) shapeless) (sym c.both.ensures ∙ c.if-both.true))
+returns-then-legal_mode c = c.from_full.ensures ∙ sym (ap (λ (b : Bool). cond b (full_layout_of c.args.layout) shapeless) (sym c.legal_mode.ensures ∙ c.if-legal_mode.true))
 
 pub returns : goal.returns
 unfolding layout_by
-returns c = sym (ap (λ (b : Bool). cond b (full_layout_of c.args.layout) shapeless) (sym c.both.ensures ∙ c.if-both.false))
+returns c = sym (ap (λ (b : Bool). cond b (full_layout_of c.args.layout) shapeless) (sym c.legal_mode.ensures ∙ c.if-legal_mode.false))

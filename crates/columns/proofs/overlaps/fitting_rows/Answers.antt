@@ -5,22 +5,21 @@ use native.Mathlib.Omega.{arith}
 use Rattle.lanes.specs.Blocks.{Cells, cells_of, blanked_cells}
 use Rattle.lanes.specs.Overlap.{fitting}
 use Rattle.lanes.proofs.Agreeing.{fitting_cong}
-use Rattle.columns.specs.Stack.{upright}
-use Rattle.columns.specs.Placing.{placed_block}
+use Rattle.columns.specs.Placing.{placed_columns}
 use Rattle.columns.proofs.Columns.{view_of, columns_seen}
 use Rattle.columns.proofs.overlaps.fitting_rows.Goals as goal
 
 pub returns : goal.returns
 returns c =
-    let a = c.args in
-    let p = c.requires in
+    let u = c.args.upper in
+    let l = c.args.lower in
     let q = c.column_starts-starts in
-    let w = c.smaller-w in
-    let hard = a.hardblank.0 in
-    let up : Cells = upright hard (placed_block a.upper.now a.u) in
-    let low : Cells = upright hard (placed_block a.lower.now a.l) in
+    let w = c.min-w in
+    let hard = c.args.hardblank.0 in
+    let up : Cells = placed_columns hard u in
+    let low : Cells = placed_columns hard l in
     c.blanked_fitting.ensures
-    ∙ (fitting_cong w.result a.u.height a.l.height (blanked_cells hard (cells_of a.upper.now q.result (view_of a.u))) up (blanked_cells hard (cells_of a.lower.now q.result (view_of a.l))) low
-    (columns_seen a.upper.now q.result a.u w.result p.placed_in q.ensures (omega (arith, w.ensures)) hard)
-    (columns_seen a.lower.now q.result a.l w.result p.placed_in_2 q.ensures (omega (arith, w.ensures)) hard)
-    ∙ ap (λ (x : ℕ). fitting x a.u.height a.l.height up low) w.ensures)
+    ∙ (fitting_cong w.result u.height l.height (blanked_cells hard (cells_of u.bytes.now q.result (view_of u))) up (blanked_cells hard (cells_of l.bytes.now q.result (view_of l))) low
+    (columns_seen q.result u w.result q.ensures (omega (arith, w.ensures)) hard)
+    (columns_seen q.result l w.result q.ensures (omega (arith, w.ensures)) hard)
+    ∙ ap (λ (x : ℕ). fitting x u.height l.height up low) w.ensures)

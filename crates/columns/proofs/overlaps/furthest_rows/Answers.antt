@@ -1,33 +1,19 @@
+-- `columns::overlaps::furthest_rows` meets its contract: the overlaps are tested one after another.
 use mathlib.Core.Path.{◌∙◌, sym}
-use Prim.Native.Nat.{ℕ, min}
+use Prim.Native.Nat.{min}
 use native.Mathlib.Omega.{arith}
-use Rattle.lanes.specs.Blocks.{Cells}
-use Rattle.vertical.specs.VerticalPair.{passes_by}
-use Rattle.columns.specs.Stack.{upright}
-use Rattle.columns.specs.Placing.{placed_block}
+use Rattle.columns.specs.Placing.{placed_columns}
 use Rattle.columns.proofs.Facing.{far_none, far_is}
-use Rattle.columns.proofs.overlaps.furthest_rows.Goals.{Start}
 use Rattle.columns.proofs.overlaps.furthest_rows.Goals as goal
 
-abbrev up : Start → Cells
-up s = upright s.args.hardblank.0 (placed_block s.args.upper.now s.args.u)
-
-abbrev low : Start → Cells
-low s = upright s.args.hardblank.0 (placed_block s.args.lower.now s.args.l)
-
-abbrev narrow : Start → ℕ
-narrow s = min s.args.u.width s.args.l.width
-
 pub loop-o-init : goal.loop-o-init
-loop-o-init c =
-    (omega arith, c.smaller-most.ensures, far_none (passes_by c.args.test) (narrow (goal.at.loop-o-init c).Start) c.args.u.height (up (goal.at.loop-o-init c).Start) (low (goal.at.loop-o-init c).Start) c.args.l.height)
+loop-o-init g c = λ p d.
+    far_none p (min c.args.upper.width c.args.lower.width) c.args.upper.height c.args.lower.height (placed_columns c.args.hardblank.0 c.args.upper) (placed_columns c.args.hardblank.0 c.args.lower)
 
-pub returns-then-not-rows_pass : goal.returns-then-not-rows_pass
-returns-then-not-rows_pass c =
-    let l = c.loop-o in
-    far_is (passes_by c.args.test) (narrow (goal.at.returns-then-not-rows_pass c).Start) c.args.u.height (up (goal.at.returns-then-not-rows_pass c).Start) (low (goal.at.returns-then-not-rows_pass c).Start) c.args.l.height l.o (omega (arith, l.invariant.0, l.invariant.1)) l.invariant.2 (λ h. sym c.rows_pass.ensures ∙ c.if-not-rows_pass.true)
+pub returns-then-not-columns_pass : goal.returns-then-not-columns_pass
+returns-then-not-columns_pass g c = λ p d.
+    far_is p (min c.args.upper.width c.args.lower.width) c.args.upper.height c.args.lower.height (placed_columns c.args.hardblank.0 c.args.upper) (placed_columns c.args.hardblank.0 c.args.lower) c.loop-o.o (omega (arith, c.loop-o-test.true, c.min-most.ensures)) (c.loop-o.invariant p d) (λ h. sym (c.columns_pass.ensures p d) ∙ c.if-not-columns_pass.true)
 
 pub returns : goal.returns
-returns c =
-    let l = c.loop-o in
-    far_is (passes_by c.args.test) (narrow (goal.at.returns c).Start) c.args.u.height (up (goal.at.returns c).Start) (low (goal.at.returns c).Start) c.args.l.height l.o (omega (arith, l.invariant.0, l.invariant.1)) l.invariant.2 (λ h. absurd (omega (arith, c.loop-o-test.false, l.invariant.1)))
+returns g c = λ p d.
+    far_is p (min c.args.upper.width c.args.lower.width) c.args.upper.height c.args.lower.height (placed_columns c.args.hardblank.0 c.args.upper) (placed_columns c.args.hardblank.0 c.args.lower) c.min-most.result (omega (arith, c.min-most.ensures)) (λ k u. c.loop-o.invariant p d k (omega (arith, u, c.loop-o-test.false))) (λ h. absurd (omega (arith, h, c.min-most.ensures)))

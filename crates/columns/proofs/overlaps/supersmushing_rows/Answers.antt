@@ -1,31 +1,36 @@
 -- `columns::overlaps::supersmushing_rows` meets its contract.
 use mathlib.Core.Path.{◌∙◌, sym}
+use Rattle.std.proofs.Common.{rules}
 use Prim.Native.Nat.{ℕ, min}
 use native.Mathlib.Omega.{arith}
 use Rattle.lanes.specs.Blocks.{Cells}
-use Rattle.columns.specs.Stack.{upright}
-use Rattle.columns.specs.Placing.{placed_block}
+use Rattle.subchars.specs.declared.VerticalSmushing.TheVariants.{Controlled}
+use Rattle.subchars.specs.declared.VerticalLayout.TheVariants.{Smushing}
+use Rattle.vertical.specs.VerticalPair.{merges, barred, other_rules}
+use Rattle.columns.specs.Placing.{placed_columns}
 use Rattle.columns.proofs.Demand.{super_far, super_else}
 use Rattle.columns.proofs.overlaps.supersmushing_rows.Goals.{Start}
 use Rattle.columns.proofs.overlaps.supersmushing_rows.Goals as goal
 
 abbrev up : Start → Cells
-up s = upright s.args.hardblank.0 (placed_block s.args.upper.now s.args.u)
+up s = placed_columns s.args.hardblank.0 s.args.upper
 
 abbrev low : Start → Cells
-low s = upright s.args.hardblank.0 (placed_block s.args.lower.now s.args.l)
+low s = placed_columns s.args.hardblank.0 s.args.lower
 
 abbrev narrow : Start → ℕ
-narrow s = min s.args.u.width s.args.l.width
+narrow s = min s.args.upper.width s.args.lower.width
 
-pub returns-then-f-s : goal.returns-then-f-s
-returns-then-f-s c =
-    let f = c.fitting_rows-f in
-    let far = c.furthest_rows-s in
-    far.ensures ∙ sym (super_far (narrow (goal.at.returns-then-f-s c).Start) c.args.u.height c.args.l.height (up (goal.at.returns-then-f-s c).Start) (low (goal.at.returns-then-f-s c).Start) c.args.set (omega (arith, c.if-f-s.true, f.ensures, far.ensures)))
+pub returns-then-fit-far : goal.returns-then-fit-far
+returns-then-fit-far c =
+    let s = (goal.at.returns-then-fit-far c).Start in
+    let fit = c.fitting_rows-fit in
+    let far = c.furthest_rows-far.ensures barred (λ u l t e. search rules) in
+    far ∙ sym (super_far (narrow s) c.args.upper.height c.args.lower.height (up s) (low s) c.args.set (omega (arith, c.if-fit-far.true, fit.ensures, far)))
 
 pub returns : goal.returns
 returns c =
-    let f = c.fitting_rows-f in
-    let far = c.furthest_rows-s in
-    c.smushing_rows.ensures ∙ sym (super_else (narrow (goal.at.returns c).Start) c.args.u.height c.args.l.height (up (goal.at.returns c).Start) (low (goal.at.returns c).Start) c.args.set (omega (arith, c.if-f-s.false, f.ensures, far.ensures)))
+    let s = (goal.at.returns c).Start in
+    let fit = c.fitting_rows-fit in
+    let far = c.furthest_rows-far.ensures barred (λ u l t e. search rules) in
+    c.smushing_rows.ensures (merges (Smushing (Controlled (other_rules c.args.set)))) (λ u l t e. search rules) ∙ sym (super_else (narrow s) c.args.upper.height c.args.lower.height (up s) (low s) c.args.set (omega (arith, c.if-fit-far.false, fit.ensures, far)))

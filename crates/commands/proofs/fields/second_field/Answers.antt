@@ -7,13 +7,13 @@ pub returns-in_default : goal.returns-in_default
 returns-in_default c = second_none _ _ _ _ c.first_field.ensures c.in_default.is
 
 pub slice_bounds-ends_field-count : goal.slice_bounds-ends_field-count
-slice_bounds-ends_field-count c = field_in _ _ _ _ (sym c.in-Field.is ∙ c.first_field.ensures)
+slice_bounds-ends_field-count c = field_in _ _ _ (sym c.in-Some.is ∙ c.first_field.ensures)
 
 pub slice_bounds-ends_field-start : goal.slice_bounds-ends_field-start
-slice_bounds-ends_field-start c = field_in _ _ _ _ (sym c.in-Field.is ∙ c.first_field.ensures)
+slice_bounds-ends_field-start c = field_in _ _ _ (sym c.in-Some.is ∙ c.first_field.ensures)
 
-pub returns-then-ends_field : goal.returns-then-ends_field
-returns-then-ends_field c = c.map_codes.ensures ∙ second_mapped _ _ c.args.t.now _ c.first_field.ensures _ _ c.in-Field.is _ c.ends_field.ensures c.if-ends_field.true
+pub returns-then-not-ends_field : goal.returns-then-not-ends_field
+returns-then-not-ends_field c = second_open _ _ c.args.t.now _ c.first_field.ensures _ c.in-Some.is _ c.ends_field.ensures c.if-not-ends_field.true
 
 pub returns : goal.returns
-returns c = second_open _ _ c.args.t.now _ c.first_field.ensures _ _ c.in-Field.is _ c.ends_field.ensures c.if-ends_field.false
+returns c = c.map_codes.ensures ∙ second_mapped _ _ c.args.t.now _ c.first_field.ensures _ c.in-Some.is _ c.ends_field.ensures c.if-not-ends_field.false

@@ -6,8 +6,8 @@ use Rattle.ground.specs.Limits.{max_stages}
 use Rattle.flc.specs.Steps.{control_from}
 use Rattle.flc.proofs.reading.next_command.Given as goal
 
-abbrev pub invariant-loop-command : goal.invariant-loop-command
-invariant-loop-command l = (l.stage < max_stages) × (control_from l.s l.initial.cursor.at l.first_stage l.n ≡ control_from l.s l.cursor.at l.stage l.n)
+abbrev pub invariant-loop-line : goal.invariant-loop-line
+invariant-loop-line l = (l.stage < max_stages) × (control_from l.s l.initial.cursor.at l.first_stage l.n ≡ control_from l.s l.cursor.at l.stage l.n)
 
-abbrev pub decreases-loop-command : goal.decreases-loop-command
-decreases-loop-command l = length l.s - l.cursor.at
+abbrev pub decreases-loop-line : goal.decreases-loop-line
+decreases-loop-line l = length l.s - l.cursor.at

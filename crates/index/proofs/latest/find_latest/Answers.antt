@@ -11,8 +11,7 @@ use Rattle.index.proofs.LatestLaws.{latest-none, latest-more}
 use Rattle.index.proofs.latest.find_latest.Goals as goal
 
 pub loop-i-init : goal.loop-i-init
-loop-i-init c =
-    (omega arith, latest-none c.args.codes.now c.args.latest.now _ c.requires c.zero_numbers.ensures)
+loop-i-init c = latest-none c.args.codes.now c.args.latest.now _ c.requires c.fill_from.ensures
 
 pub loop-i-preserved : goal.loop-i-preserved
 loop-i-preserved c =
@@ -20,5 +19,4 @@ loop-i-preserved c =
     let a = c.args in
     let x = get_or a.codes.now l.i (pos 0) in
     let e : to_z w32 (of_z w32 x) ≡ x = search rules in
-    let n = c.note.ensures in
-    (omega arith, latest-more a.codes.now l.i l.latest c.note.new.latest (omega arith) l.invariant.1 (subst (λ (y : ℤ). Noted y (l.i + 1) l.latest c.note.new.latest) e n))
+    latest-more a.codes.now l.i l.latest c.note.new.latest (omega arith) l.invariant (subst (λ (y : ℤ). Noted y (l.i + 1) l.latest c.note.new.latest) e c.note.ensures)

@@ -4,8 +4,5 @@ use Prim.Native.Nat.{◌-◌}
 use Rattle.lines.specs.Lines.{skipped}
 use Rattle.lines.proofs.Cursor.skip.Given as goal
 
-abbrev pub invariant-loop-left : goal.invariant-loop-left
-invariant-loop-left l = skipped l.count l.s l.initial.cursor.at ≡ skipped l.left l.s l.cursor.at
-
-abbrev pub decreases-loop-left : goal.decreases-loop-left
-decreases-loop-left l = l.left
+abbrev pub invariant-loop-passed : goal.invariant-loop-passed
+invariant-loop-passed l = skipped l.count l.s l.initial.cursor.at ≡ skipped (l.count - l.passed) l.s l.cursor.at

@@ -1,12 +1,8 @@
 -- `lines::numbers::code_number` meets its contract.
-use mathlib.Core.Path.{◌≡◌, refl, sym, ap, ◌∙◌}
+use mathlib.Core.Path.{refl, ◌∙◌}
 use native.Mathlib.Omega.{arith}
 use borrow.Author.Rules.{rules}
-use lib.IntN.{ℤ}
-use mir.Syntax.{w32}
-use mir.Val.{to_z, of_z}
-use Rattle.lines.specs.declared.numbers.CodeNumber.TheVariants.{Named}
-use Rattle.lines.specs.Numbers.{as_code}
+use borrow.Author.Tests.{tests}
 use Rattle.lines.proofs.NumberLaws.{minus_le, sound_of, code_is}
 use Rattle.lines.proofs.numbers.code_number.Goals as goal
 
@@ -25,15 +21,7 @@ slice_bounds-number_of-start c = (sound_of _ _ c.find_radix-radix.ensures).skips
 pub number_of-requires : goal.number_of-requires
 number_of-requires c = let s = sound_of _ _ c.find_radix-radix.ensures in (s.low, s.high)
 
-pub returns-in-Value : goal.returns-in-Value
-returns-in-Value c =
-    let z = c.in-Value.z in
-    let e : to_z w32 (of_z w32 z) ≡ z = search rules in
-    ap (λ (y : ℤ). Named (record { 0 = y })) e ∙
-    sym (ap as_code c.in-Value.is) ∙
-    code_is c.args.w.now _ _ _ _ c.minus_length-n.ensures refl c.find_radix-radix.ensures c.number_of.ensures
-
-pub returns-in-NotNumber : goal.returns-in-NotNumber
-returns-in-NotNumber c =
-    sym (ap as_code c.in-NotNumber.is) ∙
+pub returns : goal.returns
+returns c =
+    search (rules, tests) ∙
     code_is c.args.w.now _ _ _ _ c.minus_length-n.ensures refl c.find_radix-radix.ensures c.number_of.ensures

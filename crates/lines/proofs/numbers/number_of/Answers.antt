@@ -1,29 +1,30 @@
 -- `lines::numbers::number_of` meets its contract: the limit of `value_of` changes no number.
-use mathlib.Core.Path.{◌≡◌, ap, ◌∙◌}
-use mathlib.Core.List.{List}
-use mathlib.Core.Bool.{Bool}
-use Prim.Native.Nat.{ℕ, ◌≤◌, ◌<◌, ◌^◌, min}
-use native.Mathlib.Omega.{arith}
-use lib.ListN.{length}
-use Rattle.ground.specs.Runs.{run}
-use Rattle.lines.specs.declared.numbers.Number.{Number}
-use Rattle.lines.specs.declared.numbers.Number.TheVariants.{NotNumber}
-use Rattle.lines.specs.Numbers.{is_digit, value, within32_bits, signed, number}
+use mathlib.Core.Path.{sym, ap, ◌∙◌}
+use borrow.Author.Rules.{rules}
+use borrow.Author.Tests.{tests}
+use Rattle.std.proofs.lemmas.Iterator.{YieldsList-from_slice}
+use Rattle.std.proofs.lemmas.Iterator.Search.{all_from_yields_List}
+use Rattle.lines.specs.Numbers.{is_digit, within32_bits, signed}
+use Rattle.lines.proofs.WordLaws.{all_is}
 use Rattle.lines.proofs.NumberLaws.{number-empty, number_not, number_is}
+use Rattle.lines.proofs.numbers.number_of.Goals.{then-is_empty-via-then-is_empty, then-is_empty-via-else-is_empty+then-not-all}
 use Rattle.lines.proofs.numbers.number_of.Goals as goal
 
-module _ (minus : Bool) (base : ℕ) (w : List ℕ) (h : length w ≡ 0 → ⊥) (n : ℕ) (e : n ≡ run (is_digit base) w) where
-  not_digits : n < length w → NotNumber ≡ number minus base w
-  not_digits l = number_not minus base w h (omega arith)
-
-  digits : length w ≤ n → (r : Number) (v : ℕ) → v ≡ min (value base w) (2 ^ 32) → r ≡ within32_bits (signed minus v) → r ≡ number minus base w
-  digits l r v p q = q ∙ ap (λ (k : ℕ). within32_bits (signed minus k)) p ∙ number_is minus base w h (omega arith)
-
-pub returns-then-digits-eq0 : goal.returns-then-digits-eq0
-returns-then-digits-eq0 c = number-empty _ _ _ c.if-digits-eq0.true
-
-pub returns-then-run_length-digits : goal.returns-then-run_length-digits
-returns-then-run_length-digits c = not_digits _ _ _ c.if-digits-eq0.false _ c.run_length.ensures c.if-run_length-digits.true
+pub returns-then-is_empty : goal.returns-then-is_empty
+unfolding is_digit
+returns-then-is_empty c =
+    let a = c.args in
+    elim c.then-is_empty.branch [
+      | then-is_empty-via-then-is_empty w ↦ number-empty a.minus a.base a.digits.now (search (w.if-is_empty.true, c.is_empty.ensures, rules, tests))
+      | then-is_empty-via-else-is_empty+then-not-all w ↦
+          number_not a.minus a.base a.digits.now (search (w.if-is_empty.false, c.is_empty.ensures, rules, tests))
+          (sym (all_is (is_digit a.base) a.digits.now) ∙ sym (all_from_yields_List (is_digit a.base) _ _ _ w.all.ensures.ran (YieldsList-from_slice a.digits.now cc) (λ x b q k. search (rules, tests))) ∙ w.if-not-all.true)
+    ]
 
 pub returns : goal.returns
-returns c = digits _ _ _ c.if-digits-eq0.false _ c.run_length.ensures c.if-run_length-digits.false _ _ c.value_of.ensures c.fit.ensures
+unfolding is_digit
+returns c =
+    let a = c.args in
+    c.fit.ensures ∙ ap (λ v. within32_bits (signed a.minus v)) c.value_of.ensures ∙
+    number_is a.minus a.base a.digits.now (search (c.if-is_empty.false, c.is_empty.ensures, rules, tests))
+    (sym (all_is (is_digit a.base) a.digits.now) ∙ sym (all_from_yields_List (is_digit a.base) _ _ _ c.all.ensures.ran (YieldsList-from_slice a.digits.now cc) (λ x b q k. search (rules, tests))) ∙ c.if-not-all.false)

@@ -1,21 +1,31 @@
-use mathlib.Core.Path.{sym, ◌∙◌}
-use Prim.Native.Nat.{◌-◌}
-use native.Mathlib.Omega.{arith}
-use Rattle.ground.proofs.Runs.{counted-more, counted_stop, counted-end}
-use Rattle.lines.specs.Classes.{in_class}
+-- `lines::words::run_length` meets its contract: the run ends before the first byte that does not pass.
+use mathlib.Core.Path.{◌≡◌, refl, sym, ◌∙◌}
+use mathlib.Core.Bool.{Bool, true, false}
+use mathlib.Core.List.{List, [], ◌∷◌}
+use Prim.Native.Nat.{ℕ, ◌+◌}
+use native.Mathlib.Numerals.{add-one}
+use borrow.Author.Rules.{rules}
+use borrow.Author.Tests.{tests}
+use Rattle.std.proofs.lemmas.Iterator.{YieldsList-from_slice, IsFirst-from_position, index_from_first}
+use Rattle.ground.specs.Runs.{run}
 use Rattle.lines.proofs.words.run_length.Goals as goal
 
-pub loop-n-preserved : goal.loop-n-preserved
-loop-n-preserved c =
-    let a = c.args in
-    counted-more (in_class a.class) a.t.now c.loop-n.n (omega arith) (sym c.is_in.ensures ∙ c.if-is_in.true) c.loop-n.invariant
+module _ (p : ℕ → Bool) where
+  none : run p [] ≡ 0
+  unfolding run
+  none = refl
 
-pub returns-else-is_in : goal.returns-else-is_in
-returns-else-is_in c =
-    let a = c.args in
-    counted_stop (in_class a.class) a.t.now c.loop-n.n (omega arith) (sym c.is_in.ensures ∙ c.if-is_in.false) c.loop-n.invariant
+  hit : (x : ℕ) (xs : List ℕ) → p x ≡ false → run p (x ∷ xs) ≡ 0
+  unfolding run
+  hit x xs e = simp e
+
+  miss : (x : ℕ) (xs : List ℕ) → p x ≡ true → run p (x ∷ xs) ≡ run p xs + 1
+  unfolding run
+  miss x xs e = simp e (sym (add-one (run p xs)))
 
 pub returns : goal.returns
-returns c =
-    let a = c.args in
-    counted-end (in_class a.class) a.t.now c.loop-n.n (omega arith) c.loop-n.invariant
+returns g c = λ p t.
+    c.unwrap_or.ensures ∙
+    sym (index_from_first (run p) (λ x. p x ≡ false) (λ x. p x ≡ true) (none p) (hit p) (miss p) c.args.t.now _
+    (IsFirst-from_position _ _ _ (λ x. p x ≡ false) (λ x. p x ≡ true) c.position.ensures.ran (YieldsList-from_slice c.args.t.now cc)
+    (λ x q k. search (t, rules, tests)) (λ x q k. search (t, rules, tests))))

@@ -11,10 +11,10 @@ use lib.IntN.{pos}
 use Rattle.subchars.specs.declared.Code.{Code}
 use Rattle.records.specs.declared.Head.{Head}
 use Rattle.records.specs.declared.Place.{Place}
-use Rattle.records.specs.declared.Place.TheVariants.{At, Nowhere}
+use Rattle.std.specs.Prelude.{Option, Some, None, is_some}
 use Rattle.records.specs.Codes.{bits_of, is_code}
 use Rattle.records.specs.Versions.{head_length}
-use Rattle.records.specs.Places.{place_in, is_place}
+use Rattle.records.specs.Places.{place_in}
 use Rattle.records.proofs.CodeLaws.{code_fits}
 use Rattle.records.proofs.VersionLaws.{head_length_low}
 use Rattle.heads.specs.Pack.{head_in}
@@ -29,25 +29,25 @@ use Rattle.source.proofs.packs.choose_letter.Goals as goal
 
 -- The place y of a code's own letter, at x, or of the one with code 0, at z.
 module _ (source : Source) (s : List ℕ) (height : ℕ) (starts widths : List ℕ) (g : PackGives source s height starts widths) (f : Head) (e : f ≡ head_in s) (c : Code) where
-  abbrev z : Place
+  abbrev z : Option Place
   z = place_in f (bits_of (pos 0)) (head_length f.version) g.records
 
-  abbrev Its : Place → Type 0
+  abbrev Its : Option Place → Type 0
   Its x = x ≡ place_in f (bits_of c.0) (head_length f.version) g.records
 
-  place_in_lem : (x y : Place) → Its x → y ≡ or_else_place x z → PlaceIn f s y
+  place_in_lem : (x y : Option Place) → Its x → y ≡ or_else_place x z → PlaceIn f s y
   place_in_lem x y q p = subst (PlaceIn f s) (sym p) (go x q)
     where
-      go : (x : Place) → Its x → PlaceIn f s (or_else_place x z)
-      go (At a w) q = found_in source s height starts widths g f e (bits_of c.0) (At a w) q
-      go Nowhere q = found_in source s height starts widths g f e (bits_of (pos 0)) z refl
+      go : (x : Option Place) → Its x → PlaceIn f s (or_else_place x z)
+      go (Some a) q = found_in source s height starts widths g f e (bits_of c.0) (Some a) q
+      go None q = found_in source s height starts widths g f e (bits_of (pos 0)) z refl
 
-  choice : is_code c.0 ≡ true → (x y : Place) → Its x → y ≡ or_else_place x z → (own : Bool) → own ≡ is_place x → letter_choice f s own y ≡ source c
+  choice : is_code c.0 ≡ true → (x y : Option Place) → Its x → y ≡ or_else_place x z → (own : Bool) → own ≡ is_some x → letter_choice f s own y ≡ source c
   choice i x y q p own o = ap₂ (letter_choice f s) o p ∙ go x q
     where
-      go : (x : Place) → Its x → letter_choice f s (is_place x) (or_else_place x z) ≡ source c
-      go (At a w) q = own_choice source s height starts widths g f e c i (At a w) q refl
-      go Nowhere q = other_choice source s height starts widths g f e c i Nowhere q z refl refl
+      go : (x : Option Place) → Its x → letter_choice f s (is_some x) (or_else_place x z) ≡ source c
+      go (Some a) q = own_choice source s height starts widths g f e c i (Some a) q refl
+      go None q = other_choice source s height starts widths g f e c i None q z refl refl
 
 -- what comes as a code is one
 code_is : (c : After-head_in-head) → is_code c.args.code.0 ≡ true
@@ -80,7 +80,7 @@ returns c =
     let f = c.head_in-head in
     let l = c.find_letter-its in
     let o = c.own_or_zeroth-place in
-    let p = c.is_place in
+    let p = c.is_some in
     let shown = c.show_letter in
     let m = said source _ _ _ _ g f.result f.ensures in
     subst (λ (x : Choice). ChosenAs a.pack.now shown.new.found a.height shown.result x)

@@ -16,4 +16,4 @@ find_letter-requires c = letters-held _ _ _ _ _ c.requires.1 _ c.head_in-head.en
 pub returns : goal.returns
 returns c = λ source g.
     let f = c.head_in-head in
-    zeroth_stands_in source _ _ _ _ g f.result f.ensures _ c.find_letter.result (c.find_letter.ensures g.records (said source _ _ _ _ g f.result f.ensures)) c.is_place.ensures
+    zeroth_stands_in source _ _ _ _ g f.result f.ensures _ c.find_letter.result (c.find_letter.ensures g.records (said source _ _ _ _ g f.result f.ensures)) c.is_some.ensures

@@ -1,2 +1,0 @@
--- The laws of what is lent for an index.
-pub mod Cut

@@ -1,9 +1,0 @@
--- `evidence_fonts::checks::overlaps_of` is safe and ends.
-use Prim.Native.Nat.{◌-◌}
-use Rattle.evidence_fonts.proofs.checks.overlaps_of.Given as goal
-
-abbrev pub invariant-loop-i : goal.invariant-loop-i
-invariant-loop-i l = Unit {0}
-
-abbrev pub decreases-loop-i : goal.decreases-loop-i
-decreases-loop-i l = l.n - l.i

@@ -1,9 +1,0 @@
--- `evidence_stacks::wraps::show_places` is safe and ends.
-use Prim.Native.Nat.{◌-◌}
-use Rattle.evidence_stacks.proofs.wraps.show_places.Given as goal
-
-abbrev pub invariant-loop-i : goal.invariant-loop-i
-invariant-loop-i g l = Unit {0}
-
-abbrev pub decreases-loop-i : goal.decreases-loop-i
-decreases-loop-i g l = l.n - l.i
