@@ -28,12 +28,20 @@ const VALUE_BOUND: u64 = 65536;
 // A place is below this: 48 bits, those of three values.
 const PLACE_BOUND: u64 = VALUE_BOUND * VALUE_BOUND * VALUE_BOUND;
 
-// A refusal's number above its place.
-pub fn refused_at(r: Refusal) -> u64
+// A number above a place, as a refusal is told.
+pub fn refused_at(number: usize, place: usize) -> u64
+    requires { RefusalFits number place }
+    ensures { result ≡ refused_at number place }
+{
+    number as u64 * PLACE_BOUND + place as u64
+}
+
+// The same of a refusal: the number of its reason above its place.
+pub fn refusal_number(r: Refusal) -> u64
     requires { RefusalFits (number_of r.reason) r.place }
     ensures { result ≡ refused_at (number_of r.reason) r.place }
 {
-    r.reason.number() as u64 * PLACE_BOUND + r.place as u64
+    refused_at(r.reason.number(), r.place)
 }
 
 // Three values in the place's bits.
@@ -66,7 +74,7 @@ pub fn font_number(answer: Result<FontRead, Refusal>) -> u64
     ensures { result ≡ font_number answer }
 {
     answer.map_or_else(
-        refused_at,
+        refusal_number,
         |read| three_values(0, read.header.height, read.count),
     )
 }
@@ -77,7 +85,7 @@ pub fn control_number(answer: Result<ControlRead, Refusal>) -> u64
     ensures { result ≡ control_number (control_tells answer) }
 {
     answer.map_or_else(
-        refused_at,
+        refusal_number,
         |read| three_values(0, read.stages, read.commands),
     )
 }
@@ -91,7 +99,7 @@ pub fn draw_number(answer: DrawAnswer) -> u64
         DrawAnswer::Drawn { width, counts } => {
             three_values(counts.nothing_drawn, counts.stood_in, width)
         }
-        DrawAnswer::Refused(r) => refused_at(r),
+        DrawAnswer::Refused(r) => refusal_number(r),
     }
 }
 
@@ -104,7 +112,7 @@ pub fn wrap_number(answer: WrapAnswer) -> u64
         WrapAnswer::Wrapped { lines, counts } => {
             three_values(counts.nothing_drawn, counts.stood_in, lines)
         }
-        WrapAnswer::Refused(r) => refused_at(r),
+        WrapAnswer::Refused(r) => refusal_number(r),
     }
 }
 
@@ -114,7 +122,7 @@ pub fn join_number(answer: Result<Joined, Refusal>) -> u64
     ensures { result ≡ join_number (join_tells answer) }
 {
     answer.map_or_else(
-        refused_at,
+        refusal_number,
         |joined| three_values(0, joined.overlap, joined.width),
     )
 }
@@ -125,7 +133,7 @@ pub fn stack_number(answer: Result<Stacked, Refusal>) -> u64
     ensures { result ≡ stack_number (stack_tells answer) }
 {
     answer.map_or_else(
-        refused_at,
+        refusal_number,
         |stacked| three_values(stacked.overlap, stacked.height, stacked.width),
     )
 }
@@ -142,7 +150,7 @@ pub fn lines_number(answer: LinesAnswer) -> u64
             width: w,
             counts: _,
         } => three_values(o, h, w),
-        LinesAnswer::Refused(r) => refused_at(r),
+        LinesAnswer::Refused(r) => refusal_number(r),
     }
 }
 
@@ -152,7 +160,7 @@ pub fn pack_number(answer: Result<Accepted, Refusal>) -> u64
     ensures { result ≡ pack_number answer }
 {
     answer.map_or_else(
-        refused_at,
+        refusal_number,
         |accepted| three_values(0, accepted.height, accepted.live),
     )
 }
@@ -162,7 +170,7 @@ pub fn find_number(answer: Result<Found, Refusal>) -> u64
     requires { FindFits answer }
     ensures { result ≡ find_number answer }
 {
-    answer.map_or_else(refused_at, |found| placed_at(found.place, found.width))
+    answer.map_or_else(refusal_number, |found| placed_at(found.place, found.width))
 }
 
 // Of a change of a pack: 0 where it is done.
@@ -170,7 +178,7 @@ pub fn edit_number(answer: Result<(), Refusal>) -> u64
     requires { EditFits answer }
     ensures { result ≡ edit_number answer }
 {
-    answer.map_or_else(refused_at, |()| 0)
+    answer.map_or_else(refusal_number, |()| 0)
 }
 
 // Of the check of a drawing: 0 where it is accepted, else what is wrong and where.
@@ -182,6 +190,6 @@ pub fn check_number(answer: Result<Verdict, Refusal>) -> u64
         Ok(Verdict::Accepted) => 0,
         Ok(Verdict::WrongOverlap(k)) => where_wrong(1, k),
         Ok(Verdict::WrongByte(place)) => where_wrong(2, place),
-        Err(r) => refused_at(r),
+        Err(r) => refusal_number(r),
     }
 }

@@ -14,7 +14,9 @@ pub fn copy_part(out: &mut [u8], at: usize, s: &[u8], from: usize, n: usize)
     ensures out_after { take (at + n) out.new ≡ take at out.old ++ values (from_on s.now from) n }
     ensures stored { Stored (from_on s.now from) at n out.old out.new }
 {
-    out[at..at + n].copy_from_slice(&s[from..from + n]);
+    for k in 0..n {
+        out[at + k] = s[from + k];
+    }
 }
 
 // Where the rows of a block of width w start.

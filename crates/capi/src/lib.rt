@@ -88,7 +88,7 @@ pub extern "C" fn wattleslate_join(
 {
     if !legal_mode(layout, direction) {
         ground::zero_from(out, 0);
-        return answers::refused_at(Refusal::of(Reason::BadShape));
+        return answers::refusal_number(Refusal::of(Reason::BadShape));
     }
     answers::join_number(wattleslate::join(
         line,
@@ -122,7 +122,7 @@ pub extern "C" fn wattleslate_stack(
 {
     if limits::MAX_FULL_LAYOUT < layout {
         ground::zero_from(out, 0);
-        return answers::refused_at(Refusal::of(Reason::BadShape));
+        return answers::refusal_number(Refusal::of(Reason::BadShape));
     }
     answers::stack_number(wattleslate::stack(
         upper,

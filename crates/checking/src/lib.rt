@@ -56,12 +56,18 @@ fn compare_rows(
 {
     let need = h * (w + 1);
     let shorter = need.min(figure.len());
+    let mut r: usize = 0;
+    let mut k: usize = 0;
     for i in 0..shorter {
-        let r = i / (w + 1);
-        let k = i % (w + 1);
         let x = shown_byte(area, r * limits::MAX_LINE_WIDTH + from, w, k, hardblank);
         if figure[i] != x {
             return Some(i);
+        }
+        if k < w {
+            k += 1;
+        } else {
+            k = 0;
+            r += 1;
         }
     }
     if need == figure.len() {
@@ -85,7 +91,10 @@ pub fn compare_line(area: &[u8], mode: Mode, w: usize, h: usize, figure: &[u8]) 
 fn compare_next(wrong: Option<usize>, k: usize, right: usize, overlaps: &[usize]) -> Option<usize>
     ensures { (before : List ℕ) → length before ≡ k → wrong ≡ so_far before overlaps.now → result ≡ so_far (before ++ (right ∷ [])) overlaps.now }
 {
-    if k < overlaps.len() && overlaps[k] == right {
+    if overlaps.len() <= k {
+        return wrong.or(Some(k));
+    }
+    if overlaps[k] == right {
         return wrong;
     }
     wrong.or(Some(k))

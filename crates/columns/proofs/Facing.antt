@@ -1,15 +1,26 @@
--- The largest overlap that passes, counted up.
+-- The test of an overlap row by row, as the code has it, is the test of each column; and the largest overlap that passes, counted up.
 -- Assumes nothing.
 use mathlib.Core.Path.{◌≡◌, sym, ◌∙◌, ap}
 use mathlib.Core.Bool.{Bool, true, false}
-use Prim.Native.Nat.{ℕ, ◌+◌, ◌≤◌, ◌<◌, min}
+use Prim.Native.Nat.{ℕ, ◌+◌, ◌-◌, ◌≤◌, ◌<◌, min}
 use native.Mathlib.Omega.{arith}
 use native.Mathlib.Decide.{dec_le}
 use native.Mathlib.Numerals.{add-one}
-use Rattle.ground.proofs.Counting.{reach-is}
+use Rattle.ground.specs.Count.{every}
+use Rattle.ground.proofs.Tests.{same_test}
+use Rattle.ground.proofs.Counting.{every-at, every_of, reach-is}
 use Rattle.lanes.specs.Blocks.{Cells}
 use Rattle.lanes.specs.Overlap.{facing, furthest}
 use Rattle.lanes.proofs.Fitting.{facing-none}
+use Rattle.lanes.proofs.Smushing.{facing-at, facing_of}
+use Rattle.columns.specs.Facing.{row_faces}
+
+module _ (ok : ℕ → ℕ → Bool) (w n : ℕ) (a b : Cells) where
+  pub rows-facing : (o : ℕ) → every (row_faces ok w n a b o) o ≡ facing ok w n a b o
+  rows-facing o =
+      same_test (every (row_faces ok w n a b o) o) (facing ok w n a b o)
+      (λ e. facing_of ok w n a b o λ c i u v. every-at (λ k. ok (a k (n - o + i)) (b k i)) w (every-at (row_faces ok w n a b o) o e i v) c u)
+      (λ e. every_of (row_faces ok w n a b o) o λ i v. every_of (λ k. ok (a k (n - o + i)) (b k i)) w λ c u. facing-at ok w n a b o e c i u v)
 
 module _ (ok : ℕ → ℕ → Bool) (w n m : ℕ) (a b : Cells) where
   -- no overlap passes, and with each one more all up to it

@@ -2,3 +2,4 @@
 pub mod Stack
 pub mod Lying
 pub mod Placing
+pub mod Facing

@@ -1,27 +1,26 @@
 // By how many rows two blocks overlap. Columns on the right of the narrower block have only blanks on one side, and are not looked at.
-ghost use Rattle.std.specs.Prelude.{ℕ, Bool, ◌≡◌, ◌≤◌, ◌<◌, min};
+ghost use Rattle.std.specs.Prelude.{ℕ, Bool, ◌≡◌, ◌≤◌, ◌<◌, length, min};
 ghost use Rattle.ground.specs.Limits.{max_line_width};
-ghost use Rattle.lanes.specs.Overlap.{lane_facing, facing, furthest, fitting, smushing};
+ghost use Rattle.lanes.specs.Overlap.{facing, furthest, fitting, smushing};
 ghost use Rattle.blocks.specs.Writing.{RowAfterRow};
 ghost use Rattle.vertical.specs.VerticalPair.{merges, barred, AnswersAs};
 ghost use Rattle.columns.specs.Stack.{supersmushing, stack_overlap};
 ghost use Rattle.columns.specs.Placing.{placed_block, placed_columns};
+ghost use Rattle.columns.specs.Facing.{row_faces};
 
 use crate::Placed;
 use ground::limits;
 use lanes::View;
 use subchars::{SubCharacter, VerticalLayout, VerticalSmushing};
 
-// Where the first w columns of a block start.
-fn column_starts(w: usize) -> [usize; limits::MAX_LINE_WIDTH]
-    requires { w ≤ max_line_width }
-    ensures { RowAfterRow 1 w result }
+// Writes where the first w columns of a block start. The list is lent: a list of that length would be copied on its way back.
+fn list_columns(starts: &mut [usize], w: usize)
+    requires { w ≤ length starts.old }
+    ensures { RowAfterRow 1 w starts.new }
 {
-    let mut starts = [0usize; limits::MAX_LINE_WIDTH];
     for c in 0..w {
         starts[c] = c;
     }
-    starts
 }
 
 // The fitting overlap: each column is looked at once.
@@ -29,7 +28,8 @@ fn fitting_rows(hardblank: SubCharacter, upper: Placed, lower: Placed) -> usize
     ensures { result ≡ fitting (min upper.entry.width lower.entry.width) upper.entry.height lower.entry.height (placed_columns hardblank.0 upper.entry) (placed_columns hardblank.0 lower.entry) }
 {
     let w = upper.width.min(lower.width);
-    let starts = column_starts(w);
+    let mut starts = [0usize; limits::MAX_LINE_WIDTH];
+    list_columns(&mut starts, w);
     let a = View {
         base: upper.base,
         along: upper.stride,
@@ -52,23 +52,25 @@ fn fitting_rows(hardblank: SubCharacter, upper: Placed, lower: Placed) -> usize
     )
 }
 
-// Whether each facing pair of column c passes a test at overlap o.
-fn column_passes<T: Fn(SubCharacter, SubCharacter) -> bool>(
+// Whether each facing pair of row i of the lower block passes a test at overlap o.
+fn row_passes<T: Fn(SubCharacter, SubCharacter) -> bool>(
     test: &T,
     hardblank: SubCharacter,
     upper: Placed,
     lower: Placed,
     o: usize,
-    c: usize,
+    i: usize,
 ) -> bool
     requires callable { T.IsAlwaysCallable test.now }
-    requires within { (o ≤ upper.height) × (o ≤ lower.height) }
-    ensures { (p : ℕ → ℕ → Bool) → AnswersAs (T.post test.now) p → result ≡ lane_facing p upper.entry.height (placed_columns hardblank.0 upper.entry c) (placed_columns hardblank.0 lower.entry c) o }
+    requires within { (o ≤ upper.height) × (o ≤ lower.height) × (i < o) }
+    ensures { (p : ℕ → ℕ → Bool) → AnswersAs (T.post test.now) p → result ≡ row_faces p (min upper.entry.width lower.entry.width) upper.entry.height (placed_columns hardblank.0 upper.entry) (placed_columns hardblank.0 lower.entry) o i }
 {
     let first = upper.height - o;
-    for i in 0..o {
-        let x = upper.cell(hardblank, first + i, c);
-        let y = lower.cell(hardblank, i, c);
+    let above = (first + i) * upper.stride + upper.base;
+    let below = i * lower.stride + lower.base;
+    for c in 0..upper.width.min(lower.width) {
+        let x = subchars::blanked(SubCharacter(upper.bytes[above + c]), hardblank);
+        let y = subchars::blanked(SubCharacter(lower.bytes[below + c]), hardblank);
         if !test(x, y) {
             return false;
         }
@@ -76,8 +78,8 @@ fn column_passes<T: Fn(SubCharacter, SubCharacter) -> bool>(
     true
 }
 
-// Whether each facing pair passes a test at overlap o.
-fn columns_pass<T: Fn(SubCharacter, SubCharacter) -> bool>(
+// Whether each facing pair passes a test at overlap o: row after row, as the bytes lie.
+fn rows_pass<T: Fn(SubCharacter, SubCharacter) -> bool>(
     test: &T,
     hardblank: SubCharacter,
     upper: Placed,
@@ -88,8 +90,8 @@ fn columns_pass<T: Fn(SubCharacter, SubCharacter) -> bool>(
     requires within { (o ≤ upper.height) × (o ≤ lower.height) }
     ensures { (p : ℕ → ℕ → Bool) → AnswersAs (T.post test.now) p → result ≡ facing p (min upper.entry.width lower.entry.width) upper.entry.height (placed_columns hardblank.0 upper.entry) (placed_columns hardblank.0 lower.entry) o }
 {
-    for c in 0..upper.width.min(lower.width) {
-        if !column_passes(test, hardblank, upper, lower, o, c) {
+    for i in 0..o {
+        if !row_passes(test, hardblank, upper, lower, o, i) {
             return false;
         }
     }
@@ -107,9 +109,7 @@ fn smushing_rows<T: Fn(SubCharacter, SubCharacter) -> bool>(
     ensures { (p : ℕ → ℕ → Bool) → AnswersAs (T.post test) p → result ≡ smushing p (min upper.entry.width lower.entry.width) upper.entry.height lower.entry.height (placed_columns hardblank.0 upper.entry) (placed_columns hardblank.0 lower.entry) }
 {
     let fit = fitting_rows(hardblank, upper, lower);
-    if fit < upper.height.min(lower.height)
-        && columns_pass(&test, hardblank, upper, lower, fit + 1)
-    {
+    if fit < upper.height.min(lower.height) && rows_pass(&test, hardblank, upper, lower, fit + 1) {
         return fit + 1;
     }
     fit
@@ -127,7 +127,7 @@ fn furthest_rows<T: Fn(SubCharacter, SubCharacter) -> bool>(
 {
     let most = upper.height.min(lower.height);
     for o in 0..most {
-        if !columns_pass(&test, hardblank, upper, lower, o + 1) {
+        if !rows_pass(&test, hardblank, upper, lower, o + 1) {
             return o;
         }
     }

@@ -9,13 +9,13 @@ use native.Mathlib.Numerals.{add-one}
 use lib.ListN.{length, take, drop, length-take}
 use lib.Seq.{take_all, take-take}
 use lib.Dec.{ltb}
-use borrow.Author.Tests.{lt-ltb, le-ltb}
+use borrow.Author.Tests.{lt-ltb, le-ltb, eq-eqb, ne_eqb}
 use native.Mathlib.Decide.{dec_lt}
 use Rattle.std.specs.Prelude.{Some, None, unwrap_or}
 use Rattle.std.specs.List.{position_or_len}
 use Rattle.std.proofs.Math.Seq.{take-append_seam, take-append-add}
 use Rattle.ground.proofs.Runs.{run_le}
-use Rattle.ground.specs.Text.{is_lf}
+use Rattle.ground.specs.Text.{byte, is_lf}
 use Rattle.ground.specs.Runs.{run}
 use Rattle.cutting.specs.Cut.{not_lf}
 use Rattle.cutting.specs.Parts.{most_kept, clipped, ended, begun, Steps}
@@ -71,6 +71,15 @@ module _ (held : ℕ) (line₀ line part : List ℕ) (end n : ℕ) (few : held �
   answers-begun h =
       let e = step_begun part (take held line₀) begun-few (rw found at h) in
       (kept.0, e.0, e.1 ∙ sym (rw found at kept.1))
+
+-- The test of one byte.
+pub is_lf_lem : (x : ℕ) → x ≡ byte "\n" → not_lf x ≡ false
+unfolding not_lf
+is_lf_lem x e = ap not (eq-eqb x (byte "\n") e)
+
+pub no_lf : (x : ℕ) → (x ≡ byte "\n" → ⊥) → not_lf x ≡ true
+unfolding not_lf
+no_lf x e = ap not (ne_eqb x (byte "\n") e)
 
 -- The place of the first LF, or the end where there is none.
 first-lf : (s : List ℕ) → position_or_len is_lf s ≡ run not_lf s

@@ -15,5 +15,9 @@ use subchars::Code;
 pub fn find_in(index: &[Entry], count: usize, code: Code) -> LookedUp
     ensures answer { entry_tells result ≡ found_told index.now count code }
 {
-    seen::look_through(&index[..count.min(index.len())], code)
+    let mut seen = LookedUp::Nothing;
+    for i in 0..count.min(index.len()) {
+        seen = seen::better(seen, index[i], code);
+    }
+    seen
 }

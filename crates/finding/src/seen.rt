@@ -1,6 +1,5 @@
 // Which of three a look-up comes to, as one entry after another is seen.
-ghost use Rattle.std.specs.Prelude.{◌≡◌, fold};
-ghost use Rattle.reader.specs.declared.LookedUp.TheVariants.{Nothing};
+ghost use Rattle.std.specs.Prelude.{◌≡◌};
 ghost use Rattle.finding.specs.Steps.{is_found, better};
 
 use chars::Entry;
@@ -16,7 +15,7 @@ fn is_found(seen: LookedUp) -> bool
 
 // What the look-up comes to after one more entry is seen: that one is found, if it has the code; it stands in, if it has code 0 and none before it had
 // the code itself.
-fn better(seen: LookedUp, e: Entry, code: Code) -> LookedUp
+pub fn better(seen: LookedUp, e: Entry, code: Code) -> LookedUp
     ensures { result ≡ better code seen e }
 {
     if e.code == code {
@@ -29,13 +28,4 @@ fn better(seen: LookedUp, e: Entry, code: Code) -> LookedUp
         return LookedUp::StoodIn(e);
     }
     seen
-}
-
-// What the look-up comes to among a list's entries.
-pub fn look_through(entries: &[Entry], code: Code) -> LookedUp
-    ensures { result ≡ fold (better code) Nothing entries.now }
-{
-    entries
-        .iter()
-        .fold(LookedUp::Nothing, |seen, e| better(seen, *e, code))
 }

@@ -5,15 +5,18 @@ use mathlib.Core.Bool.{Bool, true, false, ◌&&◌, false≢true}
 use mathlib.Core.List.{List, [], ◌∷◌}
 use Prim.Native.Nat.{ℕ, zero, suc, ◌≤◌, ◌<◌}
 use native.Mathlib.Omega.{arith}
-use lib.Dec.{leb}
+use lib.Dec.{T, leb}
 use lib.IntN.{ℤ, pos, negsuc, nat_abs}
 use lib.ListN.{length}
+use lib.Signed.{non_neg}
 use borrow.Author.Tests.{leb-true}
 use Rattle.std.specs.Prelude.{Option, Some, None}
 use Rattle.ground.proofs.Tests.{and_left, and_right}
 use Rattle.ground.specs.Limits.{max_height, max_length_limit, max_rules, max_comment_lines, max_full_layout, max_direction}
 use Rattle.lines.specs.Words.{first_word}
 use Rattle.lines.specs.Numbers.{header_number, highest}
+use Rattle.lines.specs.Numbers as Numbers
+use Rattle.ground.specs.Runs as Runs
 use Rattle.header.specs.declared.Parameters.{Parameters}
 use Rattle.header.specs.Header.{numbers, parameter_numbers, parameter, parameters, min_old_layout, within, allowed, legal_parameters}
 use Rattle.header.specs.Steps.{behind}
@@ -27,6 +30,12 @@ too_few (a ∷ b ∷ []) h = refl
 too_few (a ∷ b ∷ c ∷ []) h = refl
 too_few (a ∷ b ∷ c ∷ d ∷ []) h = refl
 too_few (a ∷ b ∷ c ∷ d ∷ e ∷ zs) h = absurd (omega arith)
+
+-- What a range with a lower bound of 0 or more says.
+pub not_negative_lem : (k : ℕ) (high z : ℤ) → within (pos k) high z ≡ true → T (non_neg z)
+unfolding within
+not_negative_lem k high (pos n) e = tt
+not_negative_lem k high (negsuc n) e = absurd (false≢true e)
 
 -- What the reader finds at t: r is the number there, and u is what is left then.
 pub record Next (t : List ℕ) (r : Option ℤ) (u : List ℕ) : Type 0 where
@@ -45,6 +54,10 @@ one_more k t z u n = simp (sym n.number) (ap (λ (l : List ℕ). z ∷ numbers k
 pub no_more : (k : ℕ) (t : List ℕ) (u : List ℕ) → Next t None u → numbers k t ≡ []
 no_more k t u n = none_left k t (sym n.number)
 
+none_of_nothing : (k : ℕ) → numbers k [] ≡ []
+unfolding header_number Numbers.minus_length first_word Runs.run Numbers.number Numbers.are_digits
+none_of_nothing k = none_left k [] refl
+
 -- The number found is the first of those left, and a later one stands in what is left then.
 module _ (k : ℕ) (t : List ℕ) where
   pub first_parameter : (r : Option ℤ) (u : List ℕ) → Next t r u → parameter 0 (numbers (suc k) t) ≡ r
@@ -56,7 +69,7 @@ module _ (k : ℕ) (t : List ℕ) where
   unfolding parameter
   later_parameter j (Some z) u n = ap (parameter (suc j)) (one_more k t z u n)
   later_parameter j None u n =
-      ap (parameter (suc j)) (no_more (suc k) t u n) ∙ sym (ap (parameter j) (ap (numbers k) n.rest ∙ no_more k t u n))
+      ap (parameter (suc j)) (no_more (suc k) t u n) ∙ sym (ap (parameter j) (ap (numbers k) n.rest ∙ none_of_nothing k))
 
 -- The numbers of a text t, one after the other: what is left after each of the five that are required, and the parameters then.
 module _ (t : List ℕ) where

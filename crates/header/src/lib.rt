@@ -38,6 +38,9 @@ pub struct Header {
     pub layout: Layout,
 }
 
+// How many parameters a header has at most.
+pub const MAX_PARAMETERS: usize = 8;
+
 // The places of the hardblank, behind flf2a, of the blank or tab behind it, and where the parameters start.
 const HARDBLANK: usize = 5;
 

@@ -28,14 +28,17 @@ const MAX_FULL_LAYOUT: i32 = limits::MAX_FULL_LAYOUT as i32;
 
 const MAX_CODETAG_COUNT: i32 = i32::MAX;
 
-// The number that the first word of a text is. The text then goes on behind the word; it stays where the word is no number.
+// The number that the first word of a text is. The text then goes on behind the word; nothing is left where the word is no number, which ends the parameters.
 fn next_number(text: &mut &[u8]) -> Option<i32>
     ensures number { result ≡ header_number (first_word text.old.now) }
     ensures rest { text.new.now ≡ behind result text.old.now }
 {
     let t = *text;
     let word = words::first_word(t);
-    let number = numbers::header_number(&t[word.start..word.end])?;
+    let Some(number) = numbers::header_number(&t[word.start..word.end]) else {
+        *text = &t[..0];
+        return None;
+    };
     *text = &t[word.end..];
     Some(number)
 }

@@ -61,5 +61,8 @@ pub fn look_up(codes: &[i32], latest: &[usize], code: Code) -> Option<usize>
     requires { Latest codes.now latest.now }
     ensures { result ≡ look_up code codes.now }
 {
-    find_known(codes, latest, code).or_else(|| find_known(codes, latest, Code(0)))
+    let Some(k) = find_known(codes, latest, code) else {
+        return find_known(codes, latest, Code(0));
+    };
+    Some(k)
 }

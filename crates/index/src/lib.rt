@@ -50,5 +50,8 @@ fn find(codes: &[i32], code: Code) -> Option<usize>
 pub fn look_up(codes: &[i32], code: Code) -> Option<usize>
     ensures { result ≡ look_up code codes.now }
 {
-    find(codes, code).or_else(|| find(codes, Code(0)))
+    let Some(k) = find(codes, code) else {
+        return find(codes, Code(0));
+    };
+    Some(k)
 }

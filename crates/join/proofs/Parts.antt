@@ -5,7 +5,7 @@ use mathlib.Core.List.{List, [], ◌++◌, append_assoc, append-nil}
 use Prim.Native.Nat.{ℕ, ◌+◌, ◌-◌, ◌*◌, ◌≤◌, ◌<◌}
 use native.Mathlib.Omega.{arith}
 use lib.ListN.{length, take, drop, get_or, length-append, length-drop, drop_of_length-le}
-use lib.Seq.{take-append_seam}
+use lib.Seq.{take-append_seam, take-length}
 use borrow.Rule.Slice.PartMut.{put_mid}
 use Rattle.std.proofs.lemmas.List.{get_or-take, get_or-drop}
 use Rattle.std.proofs.lemmas.Slice.{take-put_mid}
@@ -51,6 +51,12 @@ row_parts y o left right n m r u v a b is_a is_b =
     let w : 0 + (o + k) ≡ 0 + o + k = omega arith in
     cell_right y o c d r (cut + (o + k)) (omega arith) (omega arith) ∙ (ap (λ (t : ℕ). get_or right (r * m + t) 0) z ∙ (sym (is_b (o + k) (omega arith)) ∙ ap (λ (t : ℕ). get_or b t 0) w))) in
     sym (ap (values f) e ∙ (values-add f cut (o + rest) ∙ ap₂ ◌++◌ x (values-add (λ k. f (cut + k)) o rest ∙ ap₂ ◌++◌ p q)))
+
+-- a list that was written whole
+pub all_copied : (new : List ℕ) (f : ℕ → ℕ) (n : ℕ) → length new ≡ n → take (0 + n) new ≡ values f n → new ≡ values f n
+all_copied new f n l e =
+    let k : 0 + n ≡ length new = omega (arith, l) in
+    sym (take-length new) ∙ ap (λ (j : ℕ). take j new) (sym k) ∙ e
 
 -- a list whose three parts were written one after another
 pub three_written : {A : Type 0} (out x y z : List A) (cut n k : ℕ) → length x ≡ cut → cut + length y ≡ n →

@@ -120,7 +120,7 @@ pub fn pair_rules(hardblank: SubCharacter, left: SubCharacter, right: SubCharact
     ensures { result ≡ rules_joining hardblank.0 left.0 right.0 }
 {
     let kind = kind_of(hardblank, right);
-    if kind == OTHER && left != right {
+    if (kind == OTHER) & (left != right) {
         return 0;
     }
     entry_of(hardblank, left, kind)

@@ -44,17 +44,19 @@ pub fn seek(font: &[u8], code: Code) -> Result<Option<Sought>, Refusal>
 pub fn request(font: &[u8], code: Code, row: usize) -> Result<RowPlace, Refusal>
     ensures { result ≡ row_request font.now code row }
 {
-    let found = seek(font, code)?;
-    match found {
-        Some(sought) if row < sought.height => {
-            let first = Cursor {
-                at: sought.entry.start,
-            };
-            Ok(RowPlace {
-                place: first.skip(font, row).next.at,
-                width: sought.entry.width,
-            })
-        }
-        _ => Err(Refusal::of(Reason::BadShape)),
+    match seek(font, code) {
+        Ok(found) => match found {
+            Some(sought) if row < sought.height => {
+                let first = Cursor {
+                    at: sought.entry.start,
+                };
+                Ok(RowPlace {
+                    place: first.skip(font, row).next.at,
+                    width: sought.entry.width,
+                })
+            }
+            _ => Err(Refusal::of(Reason::BadShape)),
+        },
+        Err(r) => Err(r),
     }
 }

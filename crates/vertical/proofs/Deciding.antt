@@ -9,6 +9,8 @@ use Prim.Native.Nat.{ℕ, ◌/◌, ◌%◌}
 use native.Mathlib.Omega.{arith}
 use lib.Dec.{eqb}
 use borrow.Author.Tests.{ne_eqb, eqb-false}
+use Rattle.ground.specs.Text.{byte}
+use Rattle.ground.proofs.Tests.{or_left}
 use Rattle.subchars.specs.declared.Direction.TheVariants.{LeftToRight}
 use Rattle.subchars.specs.declared.SubCharacter.{SubCharacter}
 use Rattle.subchars.specs.declared.Layout.{Layout}
@@ -19,12 +21,12 @@ use Rattle.subchars.specs.Layouts.{has}
 use Rattle.subchars.specs.Hardblank.{blank}
 use Rattle.rules.specs.declared.Rule.{Rule}
 use Rattle.rules.specs.declared.Rule.TheVariants as horizontal
-use Rattle.rules.specs.Rules.{joined_if, or_else, equal_character, underscore, hierarchy, opposite_pair, big_x, unless_hardblank}
+use Rattle.rules.specs.Rules.{joined_if, or_else, equal_character, underscore, hierarchy, opposite_pair, big_x, unless_hardblank, reads, either_order}
 use Rattle.pairs.specs.declared.Joint.{Joint}
 use Rattle.pairs.specs.declared.Joint.TheVariants.{ByBlank, ByUniversal, ByRule, Unjoinable}
 use Rattle.pairs.specs.Pair as horizontal-pair
 use Rattle.pairs.specs.Pair.{joined_by, controlled, universal, joint}
-use Rattle.vertical.specs.VerticalPair.{set_has, first_merging, without_blank, merge}
+use Rattle.vertical.specs.VerticalPair.{set_has, two_bars, first_merging, without_blank, merge, barred}
 use Rattle.vertical.specs.Steps.{shared_sum, sideways_layout, sideways, rules_of, shared_rules, line_rules}
 use Rattle.vertical.proofs.VerticalRules.{first-append}
 
@@ -115,3 +117,35 @@ module _ (layout : VerticalLayout) (u l : ℕ) where
     pub by_lines : (o : Option ℕ) → Unjoinable ≡ joint (sideways y) u l → o ≡ behind → o ≡ merge layout u l
     unfolding or_else
     by_lines o e f = f ∙ found Unjoinable e
+
+-- ------------------------------------------------------------------ the two pairs of the rules for lines, as they are tested
+
+-- a pair reads as a text of two
+read : (a b u l : ℕ) → (eqb u a && eqb l b) ≡ (eqb u a && (eqb l b && true))
+read a b u l = ap (◌&&◌ (eqb u a)) (go (eqb l b))
+  where
+    go : (t : Bool) → t ≡ (t && true)
+    go true = refl
+    go false = refl
+
+module _ (u l : ℕ) where
+  abbrev pub hyphen_above_lem : Bool
+  hyphen_above_lem = eqb u (byte "-") && eqb l (byte "_")
+
+  abbrev pub hyphen_below : Bool
+  hyphen_below = eqb l (byte "-") && eqb u (byte "_")
+
+  pub tested_above : hyphen_above_lem ≡ true → true ≡ either_order "-_" u l
+  tested_above e = sym (or_left (reads "-_" u l) (reads "-_" l u) (sym (read (byte "-") (byte "_") u l) ∙ e))
+
+  pub tested_below : hyphen_above_lem ≡ false → hyphen_below ≡ either_order "-_" u l
+  tested_below e = rw (sym (read (byte "-") (byte "_") u l) ∙ e) (read (byte "-") (byte "_") l u)
+
+  pub both_bars : (eqb u (byte "|") && eqb l (byte "|")) ≡ two_bars u l
+  unfolding two_bars
+  both_bars = read (byte "|") (byte "|") u l
+
+  -- a pair without a blank is barred if it is of two bars
+  pub barred_bars : (u ≡ blank → ⊥) → (l ≡ blank → ⊥) → two_bars u l ≡ barred u l
+  unfolding barred
+  barred_bars m n = rw (ne_eqb u blank m, ne_eqb l blank n)

@@ -13,7 +13,7 @@ pub returns-then-not-legal_mode : goal.returns-then-not-legal_mode
 returns-then-not-legal_mode c =
     let a = c.args in
     let is = sym c.legal_mode.ensures ∙ c.if-not-legal_mode.true in
-    record { answer = c.refused_at.ensures ∙ ap (λ (r : Refusal). refused_at (number_of r.reason) r.place) c.of.ensures ∙ ap join_number (illegal_told a.layout a.direction a.hardblank a.height a.line_width a.line.now a.character_width a.character.now (length a.out.now) is); area = wiped _ (length a.out.now) (length a.out.now) c.zero_from.ensures refl ∙ illegal_area a.layout a.direction a.hardblank a.height a.line_width a.line.now a.character_width a.character.now (length a.out.now) is }
+    record { answer = c.refusal_number.ensures ∙ ap (λ (r : Refusal). refused_at (number_of r.reason) r.place) c.of.ensures ∙ ap join_number (illegal_told a.layout a.direction a.hardblank a.height a.line_width a.line.now a.character_width a.character.now (length a.out.now) is); area = wiped _ (length a.out.now) (length a.out.now) c.zero_from.ensures refl ∙ illegal_area a.layout a.direction a.hardblank a.height a.line_width a.line.now a.character_width a.character.now (length a.out.now) is }
 
 pub join_number-requires : goal.join_number-requires
 join_number-requires c = let j = c.join in join_fits _ _ _ _ _ _ _ j.result j.ensures.answer

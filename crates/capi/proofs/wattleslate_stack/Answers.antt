@@ -12,7 +12,7 @@ use Rattle.capi.proofs.wattleslate_stack.Goals as goal
 pub returns-then-layout-gt-MAX_FULL_LAYOUT : goal.returns-then-layout-gt-MAX_FULL_LAYOUT
 returns-then-layout-gt-MAX_FULL_LAYOUT c =
     let a = c.args in
-    let is = c.if-layout-gt-MAX_FULL_LAYOUT.true in record { answer = c.refused_at.ensures ∙ ap (λ (r : Refusal). refused_at (number_of r.reason) r.place) c.of.ensures ∙ ap stack_number (illegal_told a.layout a.hardblank a.upper_height a.upper_width a.upper.now a.lower_height a.lower_width a.lower.now (length a.out.now) is); area = wiped _ (length a.out.now) (length a.out.now) c.zero_from.ensures refl ∙ illegal_area a.layout a.hardblank a.upper_height a.upper_width a.upper.now a.lower_height a.lower_width a.lower.now (length a.out.now) is }
+    let is = c.if-layout-gt-MAX_FULL_LAYOUT.true in record { answer = c.refusal_number.ensures ∙ ap (λ (r : Refusal). refused_at (number_of r.reason) r.place) c.of.ensures ∙ ap stack_number (illegal_told a.layout a.hardblank a.upper_height a.upper_width a.upper.now a.lower_height a.lower_width a.lower.now (length a.out.now) is); area = wiped _ (length a.out.now) (length a.out.now) c.zero_from.ensures refl ∙ illegal_area a.layout a.hardblank a.upper_height a.upper_width a.upper.now a.lower_height a.lower_width a.lower.now (length a.out.now) is }
 
 pub stack_number-requires : goal.stack_number-requires
 stack_number-requires c = let s = c.stack in stack_fits _ _ _ _ _ _ _ _ _ s.result s.ensures.answer

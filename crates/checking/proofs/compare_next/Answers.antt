@@ -8,26 +8,27 @@ use Rattle.std.specs.Prelude.{Option, Some, None}
 use Rattle.std.specs.Option.{option_or}
 use Rattle.checking.specs.Steps.{first_wrong_of}
 use Rattle.checking.proofs.TallyLaws.{next_right, next_wrong, list_ended}
-use Rattle.checking.proofs.compare_next.Goals.{else-k-overlaps-via-then-k-overlaps+else-overlaps-k, else-k-overlaps-via-else-k-overlaps}
 use Rattle.checking.proofs.compare_next.Goals as goal
 
 at-end : (before overlaps : List ℕ) (k : ℕ) → length before ≡ k → get_or overlaps k 0 ≡ get_or overlaps (length before) 0
 at-end before overlaps k e = ap (λ (j : ℕ). get_or overlaps j 0) (sym e)
 
-pub returns-then-overlaps-k : goal.returns-then-overlaps-k
-returns-then-overlaps-k c = λ before n e.
-    let a = c.args in
-    e ∙ next_right a.right before a.overlaps.now (omega (arith, c.if-k-overlaps.true)) (sym (at-end before a.overlaps.now a.k n) ∙ c.if-overlaps-k.true)
-
 or-first : (wrong : Option ℕ) (k : ℕ) → option_or wrong (Some k) ≡ first_wrong_of wrong k
 or-first None k = refl
 or-first (Some first) k = refl
 
+pub returns-then-overlaps-k : goal.returns-then-overlaps-k
+returns-then-overlaps-k c = λ before n e.
+    let a = c.args in
+    c.or.ensures ∙ or-first a.wrong a.k ∙ ap₂ first_wrong_of e (sym n) ∙ list_ended a.right before a.overlaps.now (omega (arith, c.if-overlaps-k.true))
+
+pub returns-then-overlaps-k-2 : goal.returns-then-overlaps-k-2
+returns-then-overlaps-k-2 c = λ before n e.
+    let a = c.args in
+    e ∙ next_right a.right before a.overlaps.now (omega (arith, c.if-overlaps-k.false)) (sym (at-end before a.overlaps.now a.k n) ∙ c.if-overlaps-k-2.true)
+
 pub returns : goal.returns
 returns c = λ before n e.
     let a = c.args in
-    c.or.ensures ∙ or-first a.wrong a.k ∙ ap₂ first_wrong_of e (sym n)
-    ∙ elim c.else-k-overlaps.branch [
-      | else-k-overlaps-via-then-k-overlaps+else-overlaps-k w ↦ next_wrong a.right before a.overlaps.now (omega (arith, w.if-k-overlaps.true)) (λ q. w.if-overlaps-k.false (at-end before a.overlaps.now a.k n ∙ q))
-      | else-k-overlaps-via-else-k-overlaps w ↦ list_ended a.right before a.overlaps.now (omega (arith, w.if-k-overlaps.false))
-    ]
+    c.or-2.ensures ∙ or-first a.wrong a.k ∙ ap₂ first_wrong_of e (sym n)
+    ∙ next_wrong a.right before a.overlaps.now (omega (arith, c.if-overlaps-k.false)) (λ q. c.if-overlaps-k-2.false (at-end before a.overlaps.now a.k n ∙ q))

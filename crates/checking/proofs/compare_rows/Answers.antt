@@ -1,17 +1,15 @@
 use mathlib.Core.List.{List}
 use mathlib.Core.Path.{◌≡◌, sym, ◌∙◌, ap}
-use Prim.Native.Nat.{ℕ, ◌<◌, ◌+◌, ◌*◌, ◌/◌, ◌%◌}
+use Prim.Native.Nat.{ℕ, ◌<◌, ◌+◌, ◌*◌}
 use native.Mathlib.Omega.{arith}
-use Rattle.std.proofs.Math.Nat.{mod-lt}
-use Rattle.std.proofs.lemmas.Nat.{div-add-mod'}
 use lib.ListN.{length, get_or}
 use borrow.Author.Count.{below_more}
-use Rattle.blocks.proofs.Rows.{length-rows, rows-at}
+use Rattle.blocks.proofs.Rows.{length-rows, rows-at, row_next}
 use Rattle.blocks.specs.Block.{rows_of}
 use Rattle.lanes.specs.Blocks.{Cells}
 use Rattle.checking.proofs.Comparing.{EqualBefore, differs_here, all_same, shorter_ends, row_below}
 use Rattle.checking.proofs.compare_rows.Invariants.{put_out}
-use Rattle.checking.proofs.compare_rows.Goals.{At-loop-i}
+use Rattle.checking.proofs.compare_rows.Goals.{At-loop-i, then-k-w, else-k-w}
 use Rattle.checking.proofs.compare_rows.Goals as goal
 
 abbrev cells : At-loop-i → Cells
@@ -35,25 +33,16 @@ module _ (l : At-loop-i) (t : l.loop-i.i < l.min-shorter.result) where
   in_figure : l.loop-i.i < length (figure l)
   in_figure = omega (arith, l.min-shorter.ensures)
 
-  abbrev row : ℕ
-  row = l.loop-i.i / (l.args.w + 1)
-
-  abbrev column : ℕ
-  column = l.loop-i.i % (l.args.w + 1)
-
-  in_place : row * (l.args.w + 1) + column ≡ l.loop-i.i
-  in_place = div-add-mod' l.loop-i.i (l.args.w + 1)
-
-  in_row : row < l.args.h
-  in_row = row_below row (l.args.w + 1) column l.args.h (omega (arith, l.min-shorter.ensures, in_place))
+  in_row : l.loop-i.r < l.args.h
+  in_row = row_below l.loop-i.r (l.args.w + 1) l.loop-i.k l.args.h (omega (arith, l.min-shorter.ensures, l.loop-i.invariant.1))
 
   -- byte i of the rows
-  here : get_or (rows l) l.loop-i.i 0 ≡ cells l row column
-  here = ap (λ (j : ℕ). get_or (rows l) j 0) (sym in_place) ∙ rows-at (cells l) l.args.h (l.args.w + 1) row column in_row (mod-lt l.loop-i.i (omega arith))
+  here : get_or (rows l) l.loop-i.i 0 ≡ cells l l.loop-i.r l.loop-i.k
+  here = ap (λ (j : ℕ). get_or (rows l) j 0) l.loop-i.invariant.1 ∙ rows-at (cells l) l.args.h (l.args.w + 1) l.loop-i.r l.loop-i.k in_row (omega (arith, l.loop-i.invariant.0))
 
   -- a byte that is the same
-  same_next : (x : ℕ) → x ≡ cells l row column → get_or (figure l) l.loop-i.i 0 ≡ x → EqualBefore (l.loop-i.i + 1) (rows l) (figure l)
-  same_next x e f = below_more _ _ l.loop-i.invariant (here ∙ sym e ∙ sym f)
+  same_next : (x : ℕ) → x ≡ cells l l.loop-i.r l.loop-i.k → get_or (figure l) l.loop-i.i 0 ≡ x → EqualBefore (l.loop-i.i + 1) (rows l) (figure l)
+  same_next x e f = below_more _ _ l.loop-i.invariant.2 (here ∙ sym e ∙ sym f)
 
 pub shown_byte-x-requires : goal.shown_byte-x-requires
 shown_byte-x-requires c = omega (arith, in_row (goal.at.shown_byte-x-requires c).At-loop-i c.loop-i-test.true)
@@ -62,18 +51,24 @@ pub returns-then-figure-i : goal.returns-then-figure-i
 returns-then-figure-i c =
     let t = c.loop-i-test.true in
     let l = (goal.at.returns-then-figure-i c).At-loop-i in
-    differs_here (rows l) (figure l) c.loop-i.i c.loop-i.invariant (in_rows l t) (in_figure l t) (λ e. c.if-figure-i.true (sym e ∙ here l t ∙ sym c.shown_byte-x.ensures))
+    differs_here (rows l) (figure l) c.loop-i.i c.loop-i.invariant.2 (in_rows l t) (in_figure l t) (λ e. c.if-figure-i.true (sym e ∙ here l t ∙ sym c.shown_byte-x.ensures))
 
 pub loop-i-preserved : goal.loop-i-preserved
 loop-i-preserved c =
-    same_next (goal.at.loop-i-preserved c).At-loop-i c.loop-i-test.true c.shown_byte-x.result c.shown_byte-x.ensures c.if-figure-i.false
+    let same = same_next (goal.at.loop-i-preserved c).At-loop-i c.loop-i-test.true c.shown_byte-x.result c.shown_byte-x.ensures c.if-figure-i.false in
+    let row = λ (x : ℕ). x * (c.args.w + 1) in
+    elim c.if-k-w.branch [
+      | then-k-w w ↦ (omega (arith, w.k-is, w.if-k-w.true), omega (arith, c.loop-i.invariant.1, w.k-is, ap row w.r-is), same)
+      | else-k-w w ↦
+          (omega (arith, w.k-is), omega (arith, c.loop-i.invariant.0, c.loop-i.invariant.1, w.if-k-w.false, w.k-is, ap row w.r-is, row_next c.loop-i.r (c.args.w + 1)), same)
+    ]
 
 pub returns-then-need-figure : goal.returns-then-need-figure
 returns-then-need-figure c =
     let l = (goal.at.returns-then-need-figure c).At-loop-i in
-    all_same (rows l) (figure l) c.loop-i.i c.loop-i.invariant (omega (arith, size l, c.min-shorter.ensures)) (size l ∙ c.if-need-figure.true)
+    all_same (rows l) (figure l) c.loop-i.i c.loop-i.invariant.2 (omega (arith, size l, c.min-shorter.ensures)) (size l ∙ c.if-need-figure.true)
 
 pub returns : goal.returns
 returns c =
     let l = (goal.at.returns c).At-loop-i in
-    shorter_ends (rows l) (figure l) c.min-shorter.result (λ j u. c.loop-i.invariant j (omega (arith, c.loop-i-test.false))) (omega (arith, size l, c.min-shorter.ensures)) (λ q. c.if-need-figure.false (sym (size l) ∙ q))
+    shorter_ends (rows l) (figure l) c.min-shorter.result (λ j u. c.loop-i.invariant.2 j (omega (arith, c.loop-i-test.false))) (omega (arith, size l, c.min-shorter.ensures)) (λ q. c.if-need-figure.false (sym (size l) ∙ q))

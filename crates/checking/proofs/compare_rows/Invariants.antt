@@ -1,6 +1,7 @@
--- `checking::compare_rows` meets its contract. The invariant: all bytes before byte i are equal.
+-- `checking::compare_rows` meets its contract. The invariant: byte i is column k of row r, and all before it are equal.
 use mathlib.Core.List.{List}
-use Prim.Native.Nat.{ℕ, ◌+◌, ◌*◌}
+use mathlib.Core.Path.{◌≡◌}
+use Prim.Native.Nat.{ℕ, ◌≤◌, ◌+◌, ◌*◌}
 use Rattle.ground.specs.Limits.{max_line_width}
 use Rattle.blocks.specs.Block.{rows_of}
 use Rattle.blocks.specs.Writing.{from_on}
@@ -15,4 +16,4 @@ put_out area from w hardblank q = with_lf hardblank w (from_on area (q * max_lin
 
 abbrev pub invariant-loop-i : goal.invariant-loop-i
 invariant-loop-i l =
-    EqualBefore l.i (rows_of (put_out l.area l.from l.w l.hardblank.0) l.h (l.w + 1)) l.figure
+    (l.k ≤ l.w) × (l.i ≡ l.r * (l.w + 1) + l.k) × EqualBefore l.i (rows_of (put_out l.area l.from l.w l.hardblank.0) l.h (l.w + 1)) l.figure

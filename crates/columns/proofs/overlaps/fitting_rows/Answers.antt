@@ -13,13 +13,13 @@ pub returns : goal.returns
 returns c =
     let u = c.args.upper in
     let l = c.args.lower in
-    let q = c.column_starts-starts in
+    let q = c.list_columns in
     let w = c.min-w in
     let hard = c.args.hardblank.0 in
     let up : Cells = placed_columns hard u in
     let low : Cells = placed_columns hard l in
     c.blanked_fitting.ensures
-    ∙ (fitting_cong w.result u.height l.height (blanked_cells hard (cells_of u.bytes.now q.result (view_of u))) up (blanked_cells hard (cells_of l.bytes.now q.result (view_of l))) low
-    (columns_seen q.result u w.result q.ensures (omega (arith, w.ensures)) hard)
-    (columns_seen q.result l w.result q.ensures (omega (arith, w.ensures)) hard)
+    ∙ (fitting_cong w.result u.height l.height (blanked_cells hard (cells_of u.bytes.now q.new.starts (view_of u))) up (blanked_cells hard (cells_of l.bytes.now q.new.starts (view_of l))) low
+    (columns_seen q.new.starts u w.result q.ensures (omega (arith, w.ensures)) hard)
+    (columns_seen q.new.starts l w.result q.ensures (omega (arith, w.ensures)) hard)
     ∙ ap (λ (x : ℕ). fitting x u.height l.height up low) w.ensures)

@@ -10,9 +10,9 @@ pub loop-o-init : goal.loop-o-init
 loop-o-init g c = λ p d.
     far_none p (min c.args.upper.width c.args.lower.width) c.args.upper.height c.args.lower.height (placed_columns c.args.hardblank.0 c.args.upper) (placed_columns c.args.hardblank.0 c.args.lower)
 
-pub returns-then-not-columns_pass : goal.returns-then-not-columns_pass
-returns-then-not-columns_pass g c = λ p d.
-    far_is p (min c.args.upper.width c.args.lower.width) c.args.upper.height c.args.lower.height (placed_columns c.args.hardblank.0 c.args.upper) (placed_columns c.args.hardblank.0 c.args.lower) c.loop-o.o (omega (arith, c.loop-o-test.true, c.min-most.ensures)) (c.loop-o.invariant p d) (λ h. sym (c.columns_pass.ensures p d) ∙ c.if-not-columns_pass.true)
+pub returns-then-not-rows_pass : goal.returns-then-not-rows_pass
+returns-then-not-rows_pass g c = λ p d.
+    far_is p (min c.args.upper.width c.args.lower.width) c.args.upper.height c.args.lower.height (placed_columns c.args.hardblank.0 c.args.upper) (placed_columns c.args.hardblank.0 c.args.lower) c.loop-o.o (omega (arith, c.loop-o-test.true, c.min-most.ensures)) (c.loop-o.invariant p d) (λ h. sym (c.rows_pass.ensures p d) ∙ c.if-not-rows_pass.true)
 
 pub returns : goal.returns
 returns g c = λ p d.

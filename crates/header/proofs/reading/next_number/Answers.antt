@@ -16,10 +16,10 @@ behind-word t end e = rest-is t end ∙ ap (λ (j : ℕ). drop j t) e ∙ word_r
 pub slice_bounds-header_number-end : goal.slice_bounds-header_number-end
 slice_bounds-header_number-end c = let w = c.first_word-word.ensures in found_within c.args.text.now.now _ _ w.0 w.1
 
-pub returns-in_err-number-clause-number : goal.returns-in_err-number-clause-number
-returns-in_err-number-clause-number c =
+pub returns-in_default-clause-number : goal.returns-in_default-clause-number
+returns-in_default-clause-number c =
     let w = c.first_word-word.ensures in
-    c.from_residual.ensures ∙ sym c.in_err-number.was ∙ c.header_number.ensures ∙ ap header_number (found_word c.args.text.now.now _ _ w.0 w.1)
+    sym c.in_default.is ∙ c.header_number.ensures ∙ ap header_number (found_word c.args.text.now.now _ _ w.0 w.1)
 
 pub slice_bounds-text-count : goal.slice_bounds-text-count
 slice_bounds-text-count c = let w = c.first_word-word.ensures in found_within c.args.text.now.now _ _ w.0 w.1
@@ -30,7 +30,7 @@ slice_bounds-text-start c = let w = c.first_word-word.ensures in found_within c.
 pub returns-clause-number : goal.returns-clause-number
 returns-clause-number c =
     let w = c.first_word-word.ensures in
-    search rules ∙ sym c.in_ok-number.was ∙ c.header_number.ensures ∙ ap header_number (found_word c.args.text.now.now _ _ w.0 w.1)
+    search rules ∙ sym c.in-Some.is ∙ c.header_number.ensures ∙ ap header_number (found_word c.args.text.now.now _ _ w.0 w.1)
 
 pub returns-clause-rest : goal.returns-clause-rest
 returns-clause-rest c = behind-word c.args.text.now.now _ c.first_word-word.ensures.1

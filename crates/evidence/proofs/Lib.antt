@@ -1,0 +1,2 @@
+-- The laws of what is lent for an index.
+pub mod Cut
