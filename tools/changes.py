@@ -3,7 +3,7 @@
 
 usage: tools/changes.py COMMIT > FILE
 
-It lists, crate by crate: public functions of src/ whose parameters, result or clauses changed, came or went; public structs and enums; definitions
+It lists, crate by crate: public functions of src/ whose parameters, result or clauses changed, came or went; public structs, enums and constants; definitions
 of specs/; and of the theorems in proofs/ those that README.md or docs/ name. Comments, imports and line breaks are left out.
 """
 import glob
@@ -34,10 +34,10 @@ def bracket(text, at, ends):
 
 
 def of_source(text):
-    """Each public function, struct and enum of a source file: its name, and its text without body."""
+    """Each public function, struct, enum and constant of a source file: its name, and its text without body."""
     text = re.sub(r"//[^\n]*", "", text)
     kind = ""
-    for m in re.finditer(r"^impl(?:<[^>\n]*>)? ([^{\n]+?) \{|^pub (?:struct|enum) (\w+)[^;{]*(?:;|\{)|^\s*pub (?:unsafe )?(?:extern \"C\" )?fn (\w+)|^\}", text, re.M):
+    for m in re.finditer(r"^impl(?:<[^>\n]*>)? ([^{\n]+?) \{|^pub (?:struct|enum) (\w+)[^;{]*(?:;|\{)|^\s*pub (?:unsafe )?(?:extern \"C\" )?fn (\w+)|^\s*pub const (\w+): [^;]*;|^\}", text, re.M):
         if m.group(1):
             kind = m.group(1).split(" for ")[-1] + "::"
         elif m.group(2):
@@ -49,6 +49,8 @@ def of_source(text):
             while re.compile(r"\s*(requires|ensures)\b").match(text, end):
                 end = bracket(text, text.index("{", end) + 1, "{}")
             yield kind + m.group(3), line(text[m.start() : end])
+        elif m.group(4):
+            yield kind + m.group(4), line(m.group(0))
         elif m.group(0) == "}":
             kind = ""
 
@@ -72,8 +74,8 @@ def found(top, pattern, reader):
     """All of one kind, by crate and name."""
     them = {}
     for path in sorted(glob.glob(f"{top}/crates/*/{pattern}", recursive=True)):
-        if os.path.basename(path) in ("Answers.antt", "Invariants.antt"):
-            continue
+        if os.path.basename(path) in ("Answers.antt", "Invariants.antt") and os.path.basename(os.path.dirname(path)) != "proofs":
+            continue  # the proof of one function
         crate = os.path.relpath(path, f"{top}/crates").split("/")[0]
         for name, text in reader(read(path)):
             them.setdefault((crate, name), []).append(text)
@@ -102,7 +104,7 @@ def main():
         subprocess.run(["tar", "x", "-C", base], input=tree, check=True)
         papers = " ".join(read(p) for p in [f"{base}/README.md", *glob.glob(f"{base}/docs/**/*.md", recursive=True)])
         named = set(re.split(r"[^\w'′-]+", " ".join(re.findall(r"`([^`\n]+)`", papers))))
-        told("Public functions, structs and enums", found(base, "src/**/*.rt", of_source), found(TOP, "src/**/*.rt", of_source))
+        told("Public functions, structs, enums and constants", found(base, "src/**/*.rt", of_source), found(TOP, "src/**/*.rt", of_source))
         told("Definitions", found(base, "specs/**/*.antt", of_specs), found(TOP, "specs/**/*.antt", of_specs))
         told("Theorems that README or docs name", found(base, "proofs/**/*.antt", of_proofs), found(TOP, "proofs/**/*.antt", of_proofs), named.__contains__)
 
